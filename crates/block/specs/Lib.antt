@@ -1,0 +1,4 @@
+pub mod Bytes
+pub mod Block
+pub mod Fields
+pub mod Left

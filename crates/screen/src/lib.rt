@@ -1,0 +1,22 @@
+//! What a sheet means: its rows, its nodes, what a record asks for, and what may be answered.
+
+mod answer;
+mod entry;
+mod node;
+mod rows;
+mod value;
+
+pub use answer::Answer;
+pub use answer::Line;
+pub use answer::Refusal;
+pub use entry::Entry;
+pub use node::Node;
+pub use rows::DependencyRow;
+pub use rows::IdentifierRow;
+pub use rows::PathRow;
+pub use rows::ReadRow;
+pub use rows::ShapeRow;
+pub use rows::TypeRow;
+pub use rows::ValueRow;
+pub use value::Reads;
+pub use value::Value;
