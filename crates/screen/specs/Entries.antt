@@ -103,3 +103,27 @@ entryOf x =
     (cond (eqb (x .tag) 12) (plainEntry x entry.Close)
     (cond (eqb (x .tag) 14) (plainEntry x entry.List)
     (cond (eqb (x .tag) 15) (shapeEntry x) None)))))))))))))
+
+-- the node that an entry makes; all else makes none, and stands for the body
+abbrev pub nodeIn : Entry → Node
+nodeIn (entry.Type t) = node.Body
+nodeIn (entry.Identifier i) = node.Body
+nodeIn (entry.Path p) = node.Body
+nodeIn (entry.Scope a z) = node.Body
+nodeIn (entry.Dependency d) = node.Body
+nodeIn (entry.Declaration k d) = node.Body
+nodeIn (entry.Reassignment i) = node.Body
+nodeIn (entry.Read r) = node.Body
+nodeIn (entry.Value v) = node.Body
+nodeIn (entry.Node x) = x
+nodeIn entry.Close = node.Body
+nodeIn entry.List = node.Body
+nodeIn (entry.Shape s) = node.Body
+
+abbrev pub nodeBy : Option Entry → Node
+nodeBy None = node.Body
+nodeBy (Some e) = nodeIn e
+
+-- the node that a record made; the body's record is all zeros
+abbrev pub nodeOf : Record → Node
+nodeOf x = nodeBy (entryOf x)

@@ -1,3 +1,14 @@
 pub mod Numbers
 pub mod Values
 pub mod Entries
+pub mod Lists
+pub mod Forest
+pub mod Statuses
+pub mod State
+pub mod Open
+pub mod Named
+pub mod Users
+pub mod Levels
+pub mod Refused
+pub mod Standing
+pub mod Lines

@@ -1,7 +1,7 @@
 //! What a record asks for, read off its fields.
 
 ghost use mathlib.Core.Path.{_≡_};
-ghost use Rattle.screen.specs.Entries.{entryOf, typeEntry, identifierEntry, pathEntry, scopeEntry, dependencyEntry, declarationEntry, reassignmentEntry, readEntry, valueListed, valueEntry, addEntry, terminalEntry, armEntry, openedEntry, openEntry, plainEntry, shapeEntry, blank};
+ghost use Rattle.screen.specs.Entries.{entryOf, nodeOf, typeEntry, identifierEntry, pathEntry, scopeEntry, dependencyEntry, declarationEntry, reassignmentEntry, readEntry, valueListed, valueEntry, addEntry, terminalEntry, armEntry, openedEntry, openEntry, plainEntry, shapeEntry, blank};
 ghost use mathlib.Core.Bool.{_&&_, _||_};
 ghost use lib.Dec.{eqb, ltb};
 
@@ -38,6 +38,18 @@ pub enum Entry {
     Close,
     List,
     Shape(ShapeRow),
+}
+
+impl Node {
+    /// The node that a record made. The body's record is all zeros.
+    pub fn made_by(x: Record) -> Node
+        ensures { λ r. ⌜ r ≡ nodeOf x ⌝ }
+    {
+        match Entry::of(x) {
+            Some(Entry::Node(node)) => node,
+            _ => Node::Body,
+        }
+    }
 }
 
 impl Entry {

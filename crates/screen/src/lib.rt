@@ -4,6 +4,7 @@ mod answer;
 mod entry;
 mod node;
 mod rows;
+mod scope;
 mod value;
 
 pub use answer::Answer;
@@ -18,5 +19,6 @@ pub use rows::ReadRow;
 pub use rows::ShapeRow;
 pub use rows::TypeRow;
 pub use rows::ValueRow;
+pub use scope::Status;
 pub use value::Reads;
 pub use value::Value;
