@@ -11,6 +11,8 @@ use Rattle.screen.specs.declared.node.Node.{Node}
 use Rattle.screen.specs.declared.node.Node.the-variants as node
 use Rattle.screen.specs.declared.entry.Entry.{Entry}
 use Rattle.screen.specs.declared.entry.Entry.the-variants as entry
+use Rattle.screen.specs.declared.entry.Put.the-variants as put
+use Rattle.screen.specs.declared.entry.Part.the-variants as part
 
 -- an entry where its fields keep their list
 abbrev pub listed : Bool → Entry → Option Entry
@@ -25,29 +27,29 @@ abbrev pub blank : ℕ → Bool
 blank n = eqb n 0
 
 abbrev pub typeEntry : Record → Option Entry
-typeEntry x = listed (leb (x .p) 7 && blank (x .q) && blank (x .s) && blank (x .t)) (entry.Type (record { shape = x .r; kind = x .p }))
+typeEntry x = listed (leb (x .p) 7 && blank (x .q) && blank (x .s) && blank (x .t)) (entry.Put (put.Type (record { shape = x .r; kind = x .p })))
 
 abbrev pub identifierEntry : Record → Option Entry
-identifierEntry x = listed (leb (x .r) 1023 && blank (x .p) && blank (x .q) && blank (x .t)) (entry.Identifier (record { declaration = x .r; typ = x .s }))
+identifierEntry x = listed (leb (x .r) 1023 && blank (x .p) && blank (x .q) && blank (x .t)) (entry.Put (put.Identifier (record { declaration = x .r; typ = x .s })))
 
 abbrev pub pathEntry : Record → Option Entry
-pathEntry x = listed (leb (x .p) 1 && leb (x .q) 1 && blank (x .t)) (entry.Path (record { low = x .r; high = x .s; kind = x .q; optional = x .p }))
+pathEntry x = listed (leb (x .p) 1 && leb (x .q) 1 && blank (x .t)) (entry.Put (put.Path (record { low = x .r; high = x .s; kind = x .q; optional = x .p })))
 
 abbrev pub scopeEntry : Record → Option Entry
-scopeEntry x = listed (order (x .r) && order (x .s) && blank (x .p) && blank (x .q) && blank (x .t)) (entry.Scope (x .r) (x .s))
+scopeEntry x = listed (order (x .r) && order (x .s) && blank (x .p) && blank (x .q) && blank (x .t)) (entry.Put (put.Scope (x .r) (x .s)))
 
 -- with no path entry, the first is written as 0
 abbrev pub dependencyEntry : Record → Option Entry
-dependencyEntry x = listed ((ltb 0 (x .q) || blank (x .s)) && blank (x .p) && blank (x .t)) (entry.Dependency (record { identifier = x .r; first = x .s; length = x .q }))
+dependencyEntry x = listed ((ltb 0 (x .q) || blank (x .s)) && blank (x .p) && blank (x .t)) (entry.Part (part.Dependency (record { identifier = x .r; first = x .s; length = x .q })))
 
 abbrev pub declarationEntry : Record → Option Entry
-declarationEntry x = listed (blank (x .p) && blank (x .q) && blank (x .t)) (entry.Declaration (x .r) (x .s))
+declarationEntry x = listed (blank (x .p) && blank (x .q) && blank (x .t)) (entry.Part (part.Declaration (x .r) (x .s)))
 
 abbrev pub reassignmentEntry : Record → Option Entry
-reassignmentEntry x = listed (blank (x .p) && blank (x .q) && blank (x .s) && blank (x .t)) (entry.Reassignment (x .r))
+reassignmentEntry x = listed (blank (x .p) && blank (x .q) && blank (x .s) && blank (x .t)) (entry.Part (part.Reassignment (x .r)))
 
 abbrev pub readEntry : Record → Option Entry
-readEntry x = listed (blank (x .p) && blank (x .q) && blank (x .s) && blank (x .t)) (entry.Read (record { identifier = x .r }))
+readEntry x = listed (blank (x .p) && blank (x .q) && blank (x .s) && blank (x .t)) (entry.Put (put.Read (record { identifier = x .r })))
 
 -- the fields of a value by its kind: an instruction's reads (one for 5, 10 and 11) and store, or children and orders
 abbrev pub valueListed : Record → Bool
@@ -84,7 +86,7 @@ abbrev pub plainEntry : Record → Entry → Option Entry
 plainEntry x e = listed (blank (x .p) && blank (x .q) && blank (x .r) && blank (x .s) && blank (x .t)) e
 
 abbrev pub shapeEntry : Record → Option Entry
-shapeEntry x = listed (ltb 0 (x .r) && blank (x .p) && blank (x .q) && blank (x .s) && blank (x .t)) (entry.Shape (record { shape = x .r }))
+shapeEntry x = listed (ltb 0 (x .r) && blank (x .p) && blank (x .q) && blank (x .s) && blank (x .t)) (entry.Put (put.Shape (record { shape = x .r })))
 
 -- a record by its tag; 13, Merge, is not built yet
 abbrev pub entryOf : Record → Option Entry
@@ -106,19 +108,12 @@ entryOf x =
 
 -- the node that an entry makes; all else makes none, and stands for the body
 abbrev pub nodeIn : Entry → Node
-nodeIn (entry.Type t) = node.Body
-nodeIn (entry.Identifier i) = node.Body
-nodeIn (entry.Path p) = node.Body
-nodeIn (entry.Scope a z) = node.Body
-nodeIn (entry.Dependency d) = node.Body
-nodeIn (entry.Declaration k d) = node.Body
-nodeIn (entry.Reassignment i) = node.Body
-nodeIn (entry.Read r) = node.Body
+nodeIn (entry.Put p) = node.Body
+nodeIn (entry.Part p) = node.Body
 nodeIn (entry.Value v) = node.Body
 nodeIn (entry.Node x) = x
 nodeIn entry.Close = node.Body
 nodeIn entry.List = node.Body
-nodeIn (entry.Shape s) = node.Body
 
 abbrev pub nodeBy : Option Entry → Node
 nodeBy None = node.Body

@@ -12,3 +12,6 @@ pub mod Levels
 pub mod Refused
 pub mod Standing
 pub mod Lines
+pub mod Step
+pub mod Records
+pub mod WellFormed

@@ -34,8 +34,8 @@ present (None ∷ os) = present os
 present (Some k ∷ os) = k ∷ present os
 
 -- row n is put
-abbrev pub put : {A : Type 0} → List A → ℕ → Bool
-put rows n = ltb n (length rows)
+abbrev pub isPut : {A : Type 0} → List A → ℕ → Bool
+isPut rows n = ltb n (length rows)
 
 -- `count` rows from `first` on are put
 abbrev pub span : {A : Type 0} → List A → ℕ → ℕ → Bool

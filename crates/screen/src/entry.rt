@@ -18,26 +18,37 @@ use crate::rows::TypeRow;
 use crate::rows::ValueRow;
 use crate::value::optional;
 
-/// A record whose fields keep their list.
+/// A row to be put, which stands for itself.
 #[derive(Clone, Copy)]
-pub enum Entry {
+pub enum Put {
     Type(TypeRow),
     Identifier(IdentifierRow),
     Path(PathRow),
     /// A Scope of this range.
     Scope { start: u32, end: u32 },
-    Dependency(DependencyRow),
-    /// A declaration of the Scope put last: its key and what it declares, both identifiers.
-    Declaration { key: u32, declared: u32 },
-    /// A reassignment by the Scope put last.
-    Reassignment { identifier: u32 },
     Read(ReadRow),
+    Shape(ShapeRow),
+}
+
+/// A part of the Scope put last.
+#[derive(Clone, Copy)]
+pub enum Part {
+    Dependency(DependencyRow),
+    /// Its key and what it declares, both identifiers.
+    Declaration { key: u32, declared: u32 },
+    Reassignment { identifier: u32 },
+}
+
+/// A record whose fields keep their list.
+#[derive(Clone, Copy)]
+pub enum Entry {
+    Put(Put),
+    Part(Part),
     Value(ValueRow),
     /// An Add, or an Open.
     Node(Node),
     Close,
     List,
-    Shape(ShapeRow),
 }
 
 impl Node {
@@ -82,7 +93,7 @@ fn type_entry(x: Record) -> Option<Entry>
     ensures { λ r. ⌜ r ≡ typeEntry x ⌝ }
 {
     if x.p <= 7 && x.q == 0 && x.s == 0 && x.t == 0 {
-        Some(Entry::Type(TypeRow { shape: x.r, kind: x.p }))
+        Some(Entry::Put(Put::Type(TypeRow { shape: x.r, kind: x.p })))
     } else {
         None
     }
@@ -93,7 +104,7 @@ fn identifier_entry(x: Record) -> Option<Entry>
     ensures { λ r. ⌜ r ≡ identifierEntry x ⌝ }
 {
     if x.r <= 1023 && x.p == 0 && x.q == 0 && x.t == 0 {
-        Some(Entry::Identifier(IdentifierRow { declaration: x.r, typ: x.s }))
+        Some(Entry::Put(Put::Identifier(IdentifierRow { declaration: x.r, typ: x.s })))
     } else {
         None
     }
@@ -104,7 +115,7 @@ fn path_entry(x: Record) -> Option<Entry>
     ensures { λ r. ⌜ r ≡ pathEntry x ⌝ }
 {
     if x.p <= 1 && x.q <= 1 && x.t == 0 {
-        Some(Entry::Path(PathRow { low: x.r, high: x.s, kind: x.q, optional: x.p }))
+        Some(Entry::Put(Put::Path(PathRow { low: x.r, high: x.s, kind: x.q, optional: x.p })))
     } else {
         None
     }
@@ -115,7 +126,7 @@ fn scope_entry(x: Record) -> Option<Entry>
     ensures { λ r. ⌜ r ≡ scopeEntry x ⌝ }
 {
     if x.r < NONE && x.s < NONE && x.p == 0 && x.q == 0 && x.t == 0 {
-        Some(Entry::Scope { start: x.r, end: x.s })
+        Some(Entry::Put(Put::Scope { start: x.r, end: x.s }))
     } else {
         None
     }
@@ -127,7 +138,7 @@ fn dependency_entry(x: Record) -> Option<Entry>
 {
     let from = x.q > 0 || x.s == 0;
     if from && x.p == 0 && x.t == 0 {
-        Some(Entry::Dependency(DependencyRow { identifier: x.r, first: x.s, length: x.q }))
+        Some(Entry::Part(Part::Dependency(DependencyRow { identifier: x.r, first: x.s, length: x.q })))
     } else {
         None
     }
@@ -138,7 +149,7 @@ fn declaration_entry(x: Record) -> Option<Entry>
     ensures { λ r. ⌜ r ≡ declarationEntry x ⌝ }
 {
     if x.p == 0 && x.q == 0 && x.t == 0 {
-        Some(Entry::Declaration { key: x.r, declared: x.s })
+        Some(Entry::Part(Part::Declaration { key: x.r, declared: x.s }))
     } else {
         None
     }
@@ -149,7 +160,7 @@ fn reassignment_entry(x: Record) -> Option<Entry>
     ensures { λ r. ⌜ r ≡ reassignmentEntry x ⌝ }
 {
     if x.p == 0 && x.q == 0 && x.s == 0 && x.t == 0 {
-        Some(Entry::Reassignment { identifier: x.r })
+        Some(Entry::Part(Part::Reassignment { identifier: x.r }))
     } else {
         None
     }
@@ -160,7 +171,7 @@ fn read_entry(x: Record) -> Option<Entry>
     ensures { λ r. ⌜ r ≡ readEntry x ⌝ }
 {
     if x.p == 0 && x.q == 0 && x.s == 0 && x.t == 0 {
-        Some(Entry::Read(ReadRow { identifier: x.r }))
+        Some(Entry::Put(Put::Read(ReadRow { identifier: x.r })))
     } else {
         None
     }
@@ -269,7 +280,7 @@ fn shape_entry(x: Record) -> Option<Entry>
     ensures { λ r. ⌜ r ≡ shapeEntry x ⌝ }
 {
     if x.r > 0 && x.p == 0 && x.q == 0 && x.s == 0 && x.t == 0 {
-        Some(Entry::Shape(ShapeRow { shape: x.r }))
+        Some(Entry::Put(Put::Shape(ShapeRow { shape: x.r })))
     } else {
         None
     }

@@ -11,6 +11,8 @@ pub use answer::Answer;
 pub use answer::Line;
 pub use answer::Refusal;
 pub use entry::Entry;
+pub use entry::Part;
+pub use entry::Put;
 pub use node::Node;
 pub use rows::DependencyRow;
 pub use rows::IdentifierRow;

@@ -1,3 +1,5 @@
 pub mod Tables
 pub mod Links
 pub mod Planted
+pub mod Chains
+pub mod Holds
