@@ -89,8 +89,8 @@ abbrev pub shapeEntry : Record → Option Entry
 shapeEntry x = listed (ltb 0 (x .r) && blank (x .p) && blank (x .q) && blank (x .s) && blank (x .t)) (entry.Put (put.Shape (record { shape = x .r })))
 
 -- a record by its tag; 13, Merge, is not built yet
-abbrev pub entryOf : Record → Option Entry
-entryOf x =
+abbrev pub entryBy : Record → Option Entry
+entryBy x =
     cond (eqb (x .tag) 1) (typeEntry x)
     (cond (eqb (x .tag) 2) (identifierEntry x)
     (cond (eqb (x .tag) 3) (pathEntry x)
@@ -105,6 +105,10 @@ entryOf x =
     (cond (eqb (x .tag) 12) (plainEntry x entry.Close)
     (cond (eqb (x .tag) 14) (plainEntry x entry.List)
     (cond (eqb (x .tag) 15) (shapeEntry x) None)))))))))))))
+
+-- what a record asks for (shut, so that proofs above it stay small)
+unfoldable pub entryOf : Record → Option Entry
+entryOf x = entryBy x
 
 -- the node that an entry makes; all else makes none, and stands for the body
 abbrev pub nodeIn : Entry → Node

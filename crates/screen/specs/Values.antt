@@ -19,8 +19,8 @@ abbrev pub readsOf : ValueRow → Reads
 readsOf v = record { first = v .r; count = v .q }
 
 -- a value by its kind; 1 to 9 but 5 are alike to all that follows
-abbrev pub valueOf : ValueRow → Value
-valueOf v =
+abbrev pub valueBy : ValueRow → Value
+valueBy v =
     cond (eqb (v .kind) 0) (Other (readsOf v))
     (cond (eqb (v .kind) 5) (LoadLocal (readsOf v))
     (cond (eqb (v .kind) 10) (StoreConst (readsOf v) (v .s))
@@ -31,6 +31,10 @@ valueOf v =
     (cond (eqb (v .kind) 15) (Optional (v .r))
     (cond (eqb (v .kind) 16) (Inner (v .r) (v .s) (optional (v .t)))
     (Simple (readsOf v))))))))))
+
+-- what a value's row says (shut, so that proofs above it stay small)
+unfoldable pub valueOf : ValueRow → Value
+valueOf v = valueBy v
 
 -- the values that a value names: three places for those that it computes with, and the last for its first inner instruction, or the next one
 abbrev pub childrenOf : Value → List (Option ℕ)

@@ -1,7 +1,7 @@
 //! What a record asks for, read off its fields.
 
 ghost use mathlib.Core.Path.{_≡_};
-ghost use Rattle.screen.specs.Entries.{entryOf, nodeOf, typeEntry, identifierEntry, pathEntry, scopeEntry, dependencyEntry, declarationEntry, reassignmentEntry, readEntry, valueListed, valueEntry, addEntry, terminalEntry, armEntry, openedEntry, openEntry, plainEntry, shapeEntry, blank};
+ghost use Rattle.screen.specs.Entries.{entryBy, entryOf, nodeOf, typeEntry, identifierEntry, pathEntry, scopeEntry, dependencyEntry, declarationEntry, reassignmentEntry, readEntry, valueListed, valueEntry, addEntry, terminalEntry, armEntry, openedEntry, openEntry, plainEntry, shapeEntry, blank};
 ghost use mathlib.Core.Bool.{_&&_, _||_};
 ghost use lib.Dec.{eqb, ltb};
 
@@ -67,6 +67,13 @@ impl Entry {
     /// What a record asks for, or none where its tag is unknown or a field breaks its list.
     pub fn of(x: Record) -> Option<Entry>
         ensures { λ r. ⌜ r ≡ entryOf x ⌝ }
+    {
+        Entry::by_tag(x)
+    }
+
+    /// The same, by its tag.
+    fn by_tag(x: Record) -> Option<Entry>
+        ensures { λ r. ⌜ r ≡ entryBy x ⌝ }
     {
         match x.tag {
             1 => type_entry(x),

@@ -1,7 +1,7 @@
 //! How a Scope stands.
 
 ghost use mathlib.Core.Path.{_≡_};
-ghost use Rattle.screen.specs.Statuses.{statusOf};
+ghost use Rattle.screen.specs.Statuses.{statusOf, isUnused};
 
 /// How a Scope stands.
 #[derive(Clone, Copy)]
@@ -26,6 +26,16 @@ impl Status {
             1 => Status::Standing,
             2 => Status::Joined,
             _ => Status::Flattened,
+        }
+    }
+
+    /// Whether no node opened it yet.
+    pub fn is_unused(self) -> bool
+        ensures { λ r. ⌜ r ≡ isUnused self ⌝ }
+    {
+        match self {
+            Status::Unused => true,
+            Status::Standing | Status::Joined | Status::Flattened => false,
         }
     }
 }

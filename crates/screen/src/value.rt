@@ -1,7 +1,7 @@
 //! What a value is, read off the fields of its row.
 
 ghost use mathlib.Core.Path.{_≡_};
-ghost use Rattle.screen.specs.Values.{optional, valueOf, childrenOf};
+ghost use Rattle.screen.specs.Values.{optional, valueBy, valueOf, childrenOf};
 
 use crate::rows::NONE;
 use crate::rows::ValueRow;
@@ -44,6 +44,13 @@ impl Value {
     /// What a row's fields say, whose kind is 0 to 16.
     pub fn of(row: ValueRow) -> Value
         ensures { λ r. ⌜ r ≡ valueOf row ⌝ }
+    {
+        Value::by_kind(row)
+    }
+
+    /// The same, by its kind.
+    fn by_kind(row: ValueRow) -> Value
+        ensures { λ r. ⌜ r ≡ valueBy row ⌝ }
     {
         let reads = Reads { first: row.r, count: row.q };
         match row.kind {

@@ -1,8 +1,12 @@
 //! A sheet in memory that a host lends: its tables, what makes them sound, and the records on them.
 
+mod levels;
+mod named;
+mod refusals;
 mod rows;
 mod sheet;
 mod table;
+mod users;
 
 pub use rows::DeclarationRow;
 pub use rows::NodeRow;
