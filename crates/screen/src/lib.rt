@@ -16,6 +16,7 @@ pub use entry::Put;
 pub use node::Node;
 pub use rows::DependencyRow;
 pub use rows::IdentifierRow;
+pub use rows::NONE;
 pub use rows::PathRow;
 pub use rows::ReadRow;
 pub use rows::ShapeRow;

@@ -8,7 +8,7 @@ ghost use lib.ListN.{length, getD, take};
 ghost use Rattle.screen.specs.Lists.{every, present};
 ghost use Rattle.screen.specs.Levels.{highest, levelsOf};
 ghost use Rattle.screen.specs.Refused.{deep};
-ghost use Rattle.sheet.specs.Tables.{items};
+ghost use Rattle.sheet.specs.Tables.{items, memory};
 ghost use Rattle.sheet.specs.Holds.{rowsOf, Within};
 
 use screen::Entry;
@@ -62,10 +62,10 @@ pub fn fill_levels(values: &[ValueRow], levels: &mut [u8; 1024]) -> bool
 impl Sheet<'_> {
     /// Whether a new value's level would pass 64.
     pub(crate) fn deep(&self, entry: Entry) -> bool
-        requires within { ⌜ Within (now self) ⌝ }
-        requires few { ⌜ length (items (now self .values)) ≤ 1024 ⌝ }
-        requires levels { ⌜ every (λ n. leb n 64) (levelsOf (items (now self .values))) ≡ true ⌝ }
-        ensures { λ r. ⌜ r ≡ deep (rowsOf (now (self .entry))) entry ⌝ }
+        requires within { ⌜ Within (memory (now self)) ⌝ }
+        requires few { ⌜ length (items (memory (now self) .values)) ≤ 1024 ⌝ }
+        requires levels { ⌜ every (λ n. leb n 64) (levelsOf (items (memory (now self) .values))) ≡ true ⌝ }
+        ensures { λ r. ⌜ r ≡ deep (rowsOf (memory (now (self .entry)))) entry ⌝ }
     {
         let Entry::Value(row) = entry else {
             return false;

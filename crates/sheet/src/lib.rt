@@ -7,6 +7,7 @@ mod rows;
 mod sheet;
 mod table;
 mod users;
+mod write;
 
 pub use rows::DeclarationRow;
 pub use rows::NodeRow;

@@ -3,7 +3,7 @@
 ghost use mathlib.Core.Path.{_≡_};
 ghost use Rattle.screen.specs.Lists.{isPut, span};
 ghost use Rattle.screen.specs.Named.{operand, optionalOperand, optionalPut, inner, valueNamed, nodeNamed, putNamed, partNamed, named};
-ghost use Rattle.sheet.specs.Tables.{items};
+ghost use Rattle.sheet.specs.Tables.{items, memory};
 ghost use Rattle.sheet.specs.Planted.{statusesOf};
 ghost use Rattle.sheet.specs.Holds.{rowsOf, Within};
 
@@ -124,8 +124,8 @@ pub fn node_named(identifiers: &[IdentifierRow], values: &[ValueRow], scopes: &[
 
 /// Whether the row that a new row names is put.
 fn put_named(s: &Sheet<'_>, put: Put) -> bool
-    requires { ⌜ Within (now s) ⌝ }
-    ensures { λ r. ⌜ r ≡ putNamed (rowsOf (now (s .entry))) put ⌝ }
+    requires { ⌜ Within (memory (now s)) ⌝ }
+    ensures { λ r. ⌜ r ≡ putNamed (rowsOf (memory (now (s .entry)))) put ⌝ }
 {
     match put {
         Put::Type(_) => true,
@@ -139,8 +139,8 @@ fn put_named(s: &Sheet<'_>, put: Put) -> bool
 
 /// Whether the rows that a part of a Scope names are put.
 fn part_named(s: &Sheet<'_>, part: Part) -> bool
-    requires { ⌜ Within (now s) ⌝ }
-    ensures { λ r. ⌜ r ≡ partNamed (rowsOf (now (s .entry))) part ⌝ }
+    requires { ⌜ Within (memory (now s)) ⌝ }
+    ensures { λ r. ⌜ r ≡ partNamed (rowsOf (memory (now (s .entry)))) part ⌝ }
 {
     let identifiers = s.identifiers.put();
     match part {
@@ -153,8 +153,8 @@ fn part_named(s: &Sheet<'_>, part: Part) -> bool
 impl Sheet<'_> {
     /// Whether the rows that an entry names are put, and of the right kind.
     pub(crate) fn named(&self, entry: Entry) -> bool
-        requires { ⌜ Within (now self) ⌝ }
-        ensures { λ r. ⌜ r ≡ named (rowsOf (now (self .entry))) (statusesOf (items (now (self .entry) .scopes))) entry ⌝ }
+        requires { ⌜ Within (memory (now self)) ⌝ }
+        ensures { λ r. ⌜ r ≡ named (rowsOf (memory (now (self .entry)))) (statusesOf (items (memory (now (self .entry)) .scopes))) entry ⌝ }
     {
         match entry {
             Entry::Put(put) => put_named(self, put),

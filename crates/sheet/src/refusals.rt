@@ -2,7 +2,7 @@
 
 ghost use mathlib.Core.Path.{_≡_};
 ghost use Rattle.screen.specs.Refused.{full, putFull, partFull, noRoom, misplaced, crowded};
-ghost use Rattle.sheet.specs.Tables.{items};
+ghost use Rattle.sheet.specs.Tables.{items, memory};
 ghost use Rattle.sheet.specs.Planted.{nodesOf, statusesOf};
 ghost use Rattle.sheet.specs.Holds.{declarationOf, rowsOf, Within};
 ghost use mathlib.Core.List.{map};
@@ -50,8 +50,8 @@ fn nodes_full(rows: &[NodeRow]) -> bool
 
 /// Whether a new row's table has no room.
 fn put_full(s: &Sheet<'_>, put: Put) -> bool
-    requires { ⌜ Within (now s) ⌝ }
-    ensures { λ r. ⌜ r ≡ putFull (rowsOf (now (s .entry))) (statusesOf (items (now (s .entry) .scopes))) put ⌝ }
+    requires { ⌜ Within (memory (now s)) ⌝ }
+    ensures { λ r. ⌜ r ≡ putFull (rowsOf (memory (now (s .entry)))) (statusesOf (items (memory (now (s .entry)) .scopes))) put ⌝ }
 {
     match put {
         Put::Type(_) => is_full(s.types.put(), 256),
@@ -65,8 +65,8 @@ fn put_full(s: &Sheet<'_>, put: Put) -> bool
 
 /// Whether the table of a Scope's part has no room; reassignments are only noted in their Scope.
 fn part_full(s: &Sheet<'_>, part: Part) -> bool
-    requires { ⌜ Within (now s) ⌝ }
-    ensures { λ r. ⌜ r ≡ partFull (rowsOf (now (s .entry))) part ⌝ }
+    requires { ⌜ Within (memory (now s)) ⌝ }
+    ensures { λ r. ⌜ r ≡ partFull (rowsOf (memory (now (s .entry)))) part ⌝ }
 {
     match part {
         Part::Dependency(_) => is_full(s.dependencies.put(), 1024),
@@ -78,8 +78,8 @@ fn part_full(s: &Sheet<'_>, part: Part) -> bool
 impl Sheet<'_> {
     /// Whether the entry's table is at its limit.
     pub(crate) fn no_room(&self, entry: Entry) -> bool
-        requires { ⌜ Within (now self) ⌝ }
-        ensures { λ r. ⌜ r ≡ noRoom (rowsOf (now (self .entry))) (statusesOf (items (now (self .entry) .scopes))) entry ⌝ }
+        requires { ⌜ Within (memory (now self)) ⌝ }
+        ensures { λ r. ⌜ r ≡ noRoom (rowsOf (memory (now (self .entry)))) (statusesOf (items (memory (now (self .entry)) .scopes))) entry ⌝ }
     {
         match entry {
             Entry::Put(put) => put_full(self, put),

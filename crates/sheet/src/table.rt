@@ -3,7 +3,7 @@
 ghost use mathlib.Core.Path.{_≡_};
 ghost use Prim.Native.Nat.{_+_, _<_, _≤_};
 ghost use lib.ListN.{length, set};
-ghost use Rattle.sheet.specs.Tables.{items};
+ghost use Rattle.sheet.specs.Tables.{items, stored};
 
 /// Rows in lent memory; the first `count` are put.
 #[derive(Drop)]
@@ -16,7 +16,7 @@ impl<'a, T: Copy> Table<'a, T> {
     /// The rows that are put.
     pub fn put(&self) -> &[T]
         requires { ⌜ now self .count ≤ length (now (now self .rows)) ⌝ }
-        ensures { λ r. ⌜ now r ≡ items (now (self .entry)) ⌝ }
+        ensures { λ r. ⌜ now r ≡ items (stored (now (self .entry))) ⌝ }
     {
         let count = self.count as usize;
         let rows = &*self.rows;

@@ -8,7 +8,7 @@ ghost use Rattle.screen.specs.declared.scope.Status.the-variants.{Unused};
 ghost use Rattle.screen.specs.Lists.{member, gathered, present};
 ghost use Rattle.screen.specs.Users.{namesOf, namesIn, valueIn, namings, taken};
 ghost use Rattle.screen.specs.Refused.{inUse, nodeUsed, used};
-ghost use Rattle.sheet.specs.Tables.{items};
+ghost use Rattle.sheet.specs.Tables.{items, memory};
 ghost use Rattle.sheet.specs.Planted.{nodesOf, statusesOf};
 ghost use Rattle.sheet.specs.Holds.{rowsOf, Within};
 
@@ -132,8 +132,8 @@ fn node_used(values: &[ValueRow], nodes: &[NodeRow], scopes: &[ScopeRow], node: 
 impl Sheet<'_> {
     /// Whether a value that is named has a user or is named twice, or a Scope is not unused: the one to be opened, or the one put last.
     pub(crate) fn used(&self, entry: Entry) -> bool
-        requires { ⌜ Within (now self) ⌝ }
-        ensures { λ r. ⌜ r ≡ used (rowsOf (now (self .entry))) (statusesOf (items (now (self .entry) .scopes))) entry ⌝ }
+        requires { ⌜ Within (memory (now self)) ⌝ }
+        ensures { λ r. ⌜ r ≡ used (rowsOf (memory (now (self .entry)))) (statusesOf (items (memory (now (self .entry)) .scopes))) entry ⌝ }
     {
         let values = self.values.put();
         let nodes = self.nodes.put();
