@@ -5,3 +5,9 @@ pub mod Chains
 pub mod Holds
 pub mod Written
 pub mod Room
+pub mod Appended
+pub mod Listed
+pub mod Seats
+pub mod Fitting
+pub mod Ladders
+pub mod Walks

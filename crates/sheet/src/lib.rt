@@ -1,11 +1,14 @@
 //! A sheet in memory that a host lends: its tables, what makes them sound, and the records on them.
 
 mod levels;
+mod list;
 mod named;
 mod refusals;
 mod rows;
 mod sheet;
+mod sound;
 mod table;
+mod tree;
 mod users;
 mod write;
 
