@@ -11,3 +11,4 @@ pub mod Seats
 pub mod Fitting
 pub mod Ladders
 pub mod Walks
+pub mod Kept
