@@ -1,2 +1,4 @@
 pub mod Members
 pub mod Levelling
+pub mod NodeEntries
+pub mod Below

@@ -1,7 +1,7 @@
 -- Laws of the tests over lists.
 use mathlib.Core.Path.{_≡_, refl, sym, ap, _∙_}
 use mathlib.Core.Bool.{Bool, true, false, cond, not, _&&_, _||_}
-use mathlib.Core.List.{List, [], _∷_, _++_}
+use mathlib.Core.List.{List, [], _∷_, _++_, map}
 use Prim.Native.Nat.{ℕ, _+_, _<_, _≤_}
 use native.Mathlib.Omega.{arith}
 use lib.Dec.{eqb}
@@ -56,3 +56,22 @@ taken-twice used k ks e = ap (λ b. member k used || b || taken used ks) e ∙ s
 
 pub taken-next : (used : List ℕ) (k : ℕ) (ks : List ℕ) → member k used ≡ false → member k ks ≡ false → taken used (k ∷ ks) ≡ taken used ks
 taken-next used k ks e h = ap (λ b. b || member k ks || taken used ks) e ∙ ap (λ b. b || taken used ks) h
+
+-- a test over what is left of a list, by the element at its front
+pub every-left : {A : Type 0} (p : A → Bool) (xs : List A) (i : ℕ) (x : A) (b : Bool) → i < length xs → x ≡ getD xs i x → p x ≡ b → every p (drop i xs) ≡ (b && every p (drop (i + 1) xs))
+every-left p xs i x b h e t = ap (every p) (drop-more xs i x h ∙ ap (λ y. y ∷ drop (i + 1) xs) (sym e)) ∙ ap (λ c. c && every p (drop (i + 1) xs)) t
+
+pub every-map : {A B : Type 0} (p : B → Bool) (f : A → B) (xs : List A) → every p (map f xs) ≡ every (λ x. p (f x)) xs
+every-map p f [] = refl
+every-map p f (x ∷ xs) = ap (λ b. p (f x) && b) (every-map p f xs)
+
+-- two tests at once
+pub every-both : {A : Type 0} (p q : A → Bool) (xs : List A) → every (λ x. p x && q x) xs ≡ (every p xs && every q xs)
+every-both p q [] = refl
+every-both p q (x ∷ xs) = ap (λ b. p x && q x && b) (every-both p q xs) ∙ so (p x) (q x) (every p xs) (every q xs)
+  where
+    so : (a b c d : Bool) → (a && b && (c && d)) ≡ ((a && c) && (b && d))
+    so true true c d = refl
+    so true false true d = refl
+    so true false false d = refl
+    so false b c d = refl

@@ -16,3 +16,6 @@ pub mod Walking
 pub mod Marking
 pub mod Gathering
 pub mod Examining
+pub mod Fresh
+pub mod NodeRowing
+pub mod Sounding

@@ -19,7 +19,8 @@ use Rattle.screen.specs.Statuses.{isGone, isStanding, statusOf}
 use Rattle.sheet.specs.declared.rows.NodeRow.{NodeRow}
 use Rattle.sheet.specs.declared.rows.ScopeRow.{ScopeRow}
 use Rattle.sheet.specs.Planted.{statusesOf}
-use Rattle.sheet.specs.Fitting.{Named, ScopesNamed, nodeAt, statusAt, openers, one, OpenedOnce, Marked, markedBy, mayOpen}
+use Rattle.sheet.specs.Listed.{ScopeBelow}
+use Rattle.sheet.specs.Fitting.{ScopesNamed, nodeAt, statusAt, openers, one, OpenedOnce, Marked, markedBy, mayOpen}
 use Rattle.sheet.proofs.Frames.{same-self, same-other}
 use Rattle.sheet.proofs.Sums.{sum-more, sum-mono}
 
@@ -29,7 +30,7 @@ as-long scopes = length-map scopes (λ r. statusOf (r .status))
 -- the Scope that a node opened is there
 pub named-there : (rows : List NodeRow) (scopes : List ScopeRow) (i j : ℕ) → ScopesNamed rows (length scopes) → i < length rows → nodeAt rows i ≡ Scope j → j < length (statusesOf scopes)
 named-there rows scopes i j h l e =
-    let there : j < length scopes = subst (λ (x : Node). Named (length scopes) x) e (h i l) in
+    let there : j < length scopes = subst (λ (x : Node). ScopeBelow (length scopes) x) e (h i l) in
     omega (arith, there, as-long scopes)
 
 -- a Scope that was opened gets its mark

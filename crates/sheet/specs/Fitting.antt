@@ -5,7 +5,6 @@ use mathlib.Core.List.{List}
 use Prim.Native.Nat.{ℕ, zero, suc, _+_, _<_}
 use lib.ListN.{length, getD, set}
 use Rattle.screen.specs.declared.node.Node.{Node}
-use Rattle.screen.specs.declared.node.Node.the-variants.{Body, Add, Terminal, Arm, Scope, Pruned}
 use Rattle.screen.specs.declared.scope.Status.{Status}
 use Rattle.screen.specs.declared.scope.Status.the-variants.{Unused}
 use Rattle.screen.specs.Entries.{nodeOf}
@@ -14,6 +13,7 @@ use Rattle.screen.specs.Standing.{opening, reached}
 use Rattle.screen.specs.Statuses.{isGone, isStanding}
 use Rattle.sheet.specs.declared.rows.NodeRow.{NodeRow}
 use Rattle.sheet.specs.Links.{Idle, row}
+use Rattle.sheet.specs.Listed.{ScopeBelow}
 
 -- the sum of g over the numbers below n
 abbrev pub sumBelow : ℕ → (ℕ → ℕ) → ℕ
@@ -28,18 +28,9 @@ nodeAt rows k = nodeOf (row rows k .made)
 abbrev pub statusAt : List Status → ℕ → Status
 statusAt ss j = getD ss j Unused
 
--- a node that opened a Scope names one of the m that are there
-abbrev pub Named : ℕ → Node → Type 0
-Named m Body = Unit {0}
-Named m (Add o v t) = Unit {0}
-Named m (Terminal k o v) = Unit {0}
-Named m Arm = Unit {0}
-Named m (Scope j) = j < m
-Named m (Pruned j) = Unit {0}
-
 -- each node that opened a Scope names one of the m that are there
 abbrev pub ScopesNamed : List NodeRow → ℕ → Type 0
-ScopesNamed rows m = (k : ℕ) → k < length rows → Named m (nodeAt rows k)
+ScopesNamed rows m = (k : ℕ) → k < length rows → ScopeBelow m (nodeAt rows k)
 
 -- a node that should be in the tree is the body or names a parent that can hold it, and one that should not has no links
 pub record Kept (rows : List NodeRow) (ss : List Status) (k : ℕ) : Type 0 where

@@ -12,3 +12,5 @@ pub mod Fitting
 pub mod Ladders
 pub mod Walks
 pub mod Kept
+pub mod NodeRows
+pub mod Examined

@@ -1,6 +1,9 @@
 //! The rows that are linked to each other by number. None is 4,294,967,295.
 
+ghost use Rattle.screen.specs.Records.{declarationRecord};
+
 use block::Record;
+use screen::Row;
 
 /// A Scope: its range, where its dependencies begin, its first declaration, the first Scope merged into it,
 /// the next Scope in the merged list that it is in, its status (0 unused, 1 standing, 2 joined, 3 flattened) and 1 where it reassigns.
@@ -32,4 +35,12 @@ pub struct NodeRow {
     pub first: u32,
     pub last: u32,
     pub next: u32,
+}
+
+pub impl Row for DeclarationRow as DeclarationPut {
+    ghost made = { λ d. declarationRecord (d .key) (d .declared) };
+
+    fn record(&self) -> Record {
+        Record { tag: 6, p: 0, q: 0, r: self.key, s: self.declared, t: 0 }
+    }
 }

@@ -7,7 +7,8 @@ ghost use lib.ListN.{length};
 ghost use Rattle.screen.specs.Standing.{reached};
 ghost use Rattle.sheet.specs.Planted.{statusesOf};
 ghost use Rattle.sheet.specs.Links.{Idle};
-ghost use Rattle.sheet.specs.Fitting.{Kept, Named, ScopesNamed, expected};
+ghost use Rattle.sheet.specs.Listed.{ScopeBelow};
+ghost use Rattle.sheet.specs.Fitting.{Kept, ScopesNamed, expected};
 use crate::rows::NodeRow;
 use crate::rows::ScopeRow;
 use crate::users::status_at;
@@ -17,7 +18,7 @@ use screen::Status;
 
 /// Whether a node opened a Scope that is joined or flattened, so that it should be in the tree no more.
 fn is_gone(scopes: &[ScopeRow], node: Node) -> bool
-    requires { ⌜ Named (length (now scopes)) node ⌝ }
+    requires { ⌜ ScopeBelow (length (now scopes)) node ⌝ }
     ensures { λ r. ⌜ reached (statusesOf (now (scopes .entry))) node ≡ cond r 0 1 ⌝ }
 {
     match node {
