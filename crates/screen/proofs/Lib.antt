@@ -1,2 +1,5 @@
 pub mod Members
 pub mod Levelling
+pub mod Counts
+pub mod Grown
+pub mod StandingGrown
