@@ -3,3 +3,4 @@ pub mod Levelling
 pub mod Counts
 pub mod Grown
 pub mod StandingGrown
+pub mod Entered
