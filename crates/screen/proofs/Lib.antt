@@ -4,3 +4,4 @@ pub mod Counts
 pub mod Grown
 pub mod StandingGrown
 pub mod Entered
+pub mod Staying
