@@ -5,3 +5,4 @@ pub mod Grown
 pub mod StandingGrown
 pub mod Entered
 pub mod Staying
+pub mod Distinct
