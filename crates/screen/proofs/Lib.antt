@@ -6,3 +6,4 @@ pub mod StandingGrown
 pub mod Entered
 pub mod Staying
 pub mod Distinct
+pub mod Scoping
