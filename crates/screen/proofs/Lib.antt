@@ -7,3 +7,4 @@ pub mod Entered
 pub mod Staying
 pub mod Distinct
 pub mod Scoping
+pub mod Filling

@@ -129,7 +129,7 @@ module _ (w : Rows) (ss : List Status) (w′ : Rows) (ss′ : List Status) (l : 
       both (isPut (w .identifiers) k) (isPut (w .identifiers) d) (isPut (w′ .identifiers) k) (isPut (w′ .identifiers) d) (identifier-stays k) (identifier-stays d) h
   part-stays (part.Reassignment i) h = identifier-stays i h
 
-  named-stays : (e : Entry) → named w ss e ≡ true → named w′ ss′ e ≡ true
+  pub named-stays : (e : Entry) → named w ss e ≡ true → named w′ ss′ e ≡ true
   named-stays (entry.Put p) h = put-stays p h
   named-stays (entry.Part p) h = both (isPut ss 0) (partNamed w p) (isPut ss′ 0) (partNamed w′ p) (isPut-stays ss ss′ (l .statuses) 0) (part-stays p) h
   named-stays (entry.Value v) h =
