@@ -8,3 +8,4 @@ pub mod Staying
 pub mod Distinct
 pub mod Scoping
 pub mod Filling
+pub mod Forming
