@@ -1,16 +1,15 @@
 -- What the fields of an entry keep, and that the record of a row asks for that row.
-use mathlib.Core.Path.{_≡_, refl, sym, ap, subst, _∙_}
+use mathlib.Core.Path.{_≡_, refl, ap, subst}
 use mathlib.Core.Bool.{Bool, true, false, cond, _&&_, _||_}
 use Prim.Native.Nat.{ℕ}
 use lib.Dec.{eqb, leb, ltb}
 use Rattle.std.specs.declared.option.Option.{Option}
 use Rattle.std.specs.declared.option.Option.the-variants.{Some, None}
-use Rattle.std.proofs.shelf.Tests.{and-parts, and-from}
+use Rattle.std.proofs.shelf.Tests.{and-parts}
 use Rattle.block.specs.declared.record.Record.{Record}
 use Rattle.screen.specs.Entries.{listed, order, blank, valueListed, typeEntry, identifierEntry, pathEntry, scopeEntry, dependencyEntry, declarationEntry, reassignmentEntry, readEntry, valueEntry, addEntry, terminalEntry, armEntry, openedEntry, openEntry, plainEntry, shapeEntry, entryBy, entryOf}
 use Rattle.screen.specs.Records.{typeRecord, identifierRecord, pathRecord, dependencyRecord, declarationRecord, readRecord, valueRecord, shapeRecord}
 use Rattle.screen.specs.WellFormed.{nodeListed}
-use Rattle.screen.specs.declared.node.Node.{Node}
 use Rattle.screen.specs.declared.node.Node.the-variants as node
 use Rattle.screen.specs.declared.rows.TypeRow.{TypeRow}
 use Rattle.screen.specs.declared.rows.IdentifierRow.{IdentifierRow}

@@ -1,8 +1,8 @@
 -- The rows stay kept with one row more.
 use mathlib.Core.Path.{_≡_, refl, sym, ap, _∙_}
-use mathlib.Core.Bool.{Bool, true, false, _&&_, _||_}
+use mathlib.Core.Bool.{true, false, _&&_, _||_}
 use mathlib.Core.List.{List, [], _∷_, _++_}
-use Prim.Native.Nat.{ℕ, _+_, _<_, _≤_}
+use Prim.Native.Nat.{ℕ}
 use native.Mathlib.Omega.{arith}
 use lib.Dec.{leb, ltb}
 use lib.ListN.{length}
@@ -18,7 +18,7 @@ use Rattle.screen.specs.Users.{namesOf, namesIn, namings, taken}
 use Rattle.screen.specs.Levels.{levelAfter, levelsOf}
 use Rattle.screen.specs.Refused.{full}
 use Rattle.screen.specs.Step.{also, withTypes, withIdentifiers, withPaths, withDependencies, withDeclarations, withReads, withValues, withShapes, withNodes}
-use Rattle.screen.specs.WellFormed.{isListed, valueKept, nodeListed, RowsKept}
+use Rattle.screen.specs.WellFormed.{isListed, nodeListed, RowsKept}
 use Rattle.screen.specs.declared.node.Node.{Node}
 use Rattle.screen.specs.declared.scope.Status.{Status}
 use Rattle.screen.specs.declared.scope.Status.the-variants.{Unused}
@@ -29,7 +29,6 @@ use Rattle.screen.specs.declared.rows.DependencyRow.{DependencyRow}
 use Rattle.screen.specs.declared.rows.ReadRow.{ReadRow}
 use Rattle.screen.specs.declared.rows.ValueRow.{ValueRow}
 use Rattle.screen.specs.declared.rows.ShapeRow.{ShapeRow}
-use Rattle.screen.specs.declared.entry.Entry.{Entry}
 use Rattle.screen.specs.declared.entry.Entry.the-variants as entry
 use Rattle.screen.specs.declared.entry.Put.the-variants as put
 use Rattle.screen.specs.declared.entry.Part.the-variants as part

@@ -1,10 +1,9 @@
 -- A sheet that records build is well-formed: a new one is, and each accepted entry keeps it so.
 use mathlib.Core.Path.{_≡_, refl, sym, ap, subst, _∙_}
-use mathlib.Core.Bool.{Bool, true, false, cond, not, _&&_, _||_}
-use mathlib.Core.List.{List, [], _∷_, _++_}
+use mathlib.Core.Bool.{Bool, true, false, cond, not, _&&_}
+use mathlib.Core.List.{List, [], _∷_}
 use Prim.Native.Nat.{ℕ, zero, suc, _+_, _-_, _<_, _≤_}
 use native.Mathlib.Omega.{arith}
-use lib.Dec.{eqb, leb, ltb}
 use lib.ListN.{length, getD, set, length-set}
 use Rattle.std.specs.declared.option.Option.{Option}
 use Rattle.std.specs.declared.option.Option.the-variants.{Some, None}
@@ -14,13 +13,13 @@ use Rattle.block.specs.declared.record.Record.{Record}
 use Rattle.screen.specs.Lists.{every, isPut}
 use Rattle.screen.specs.Entries.{entryOf}
 use Rattle.screen.specs.Forest.{Forest, bare, tree, body, cnt, canHold}
-use Rattle.screen.specs.State.{State, Rows, Scope, new, newRows}
+use Rattle.screen.specs.State.{State, Rows, Scope, new}
 use Rattle.screen.specs.Statuses.{isUnused}
 use Rattle.screen.specs.Standing.{reached, opening, openings, Labelled, Standing}
 use Rattle.screen.specs.Named.{nodeNamed, named}
 use Rattle.screen.specs.Users.{namesIn, namings, taken}
-use Rattle.screen.specs.Refused.{statuses, inUse, nodeUsed, used, deep, noRoom, misplaced, crowded, refusedBy, topOf, refusedOf}
-use Rattle.screen.specs.Step.{also, stood, reassigned, declaring, alteredLast, after, taking, asked, step}
+use Rattle.screen.specs.Refused.{statuses, used, deep, noRoom, misplaced, crowded, topOf, refusedOf}
+use Rattle.screen.specs.Step.{also, reassigned, declaring, alteredLast, after, taking, asked, step}
 use Rattle.screen.specs.WellFormed.{nodeListed, nodesKept, RowsKept, ScopesKept, WellFormed}
 use Rattle.screen.specs.declared.node.Node.{Node}
 use Rattle.screen.specs.declared.node.Node.the-variants as node

@@ -1,6 +1,6 @@
 -- The Scopes' lists after a new Scope, and after a change of one.
-use mathlib.Core.Path.{_≡_, refl, sym, ap, subst, _∙_}
-use mathlib.Core.Bool.{Bool, true, false, cond, _&&_, _||_}
+use mathlib.Core.Path.{_≡_, refl, sym, ap, _∙_}
+use mathlib.Core.Bool.{Bool, true, _&&_}
 use mathlib.Core.Logic.{_⊎_, inl, inr}
 use mathlib.Core.List.{List, [], _∷_, _++_, map}
 use Prim.Native.Nat.{ℕ, zero, suc, _+_, _-_, _<_, _≤_}
@@ -8,7 +8,7 @@ use native.Mathlib.Omega.{arith}
 use lib.Dec.{eqb, leb, ltb}
 use lib.ListN.{length, getD, set, length-set, length-map}
 use Rattle.std.proofs.shelf.Lists.{append-assoc, append-nil, map-append, map-set, getD-append-left, getD-push, length-push}
-use Rattle.std.proofs.shelf.Tests.{cases-lt, and-parts, and-from, ltb-true, lt-ltb, leb-true, le-leb, eqb-true, eq-eqb}
+use Rattle.std.proofs.shelf.Tests.{cases-lt, and-parts, and-from, ltb-true, lt-ltb, leb-true, le-leb}
 use Rattle.screen.specs.Lists.{every, member, distinct, gathered, isPut}
 use Rattle.screen.specs.Entries.{order}
 use Rattle.screen.specs.State.{Scope}
@@ -16,7 +16,6 @@ use Rattle.screen.specs.Statuses.{isJoined}
 use Rattle.screen.specs.Refused.{statuses}
 use Rattle.screen.specs.Step.{also, fresh, stood, reassigned, declaring, altered, alteredLast}
 use Rattle.screen.specs.WellFormed.{risesTo, spansTo, ScopesKept}
-use Rattle.screen.specs.declared.scope.Status.{Status}
 use Rattle.screen.specs.declared.scope.Status.the-variants.{Unused, Standing as Stood}
 use Rattle.screen.proofs.Levelling.{every-push}
 use Rattle.screen.proofs.Staying.{every-weaker}

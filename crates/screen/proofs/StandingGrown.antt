@@ -15,9 +15,9 @@ use Rattle.screen.specs.declared.node.Node.the-variants.{Body, Add, Terminal, 
 use Rattle.screen.specs.declared.scope.Status.{Status}
 use Rattle.screen.specs.declared.scope.Status.the-variants.{Unused, Standing as Stood}
 use Rattle.screen.specs.Statuses.{isGone, isStanding}
-use Rattle.screen.specs.Forest.{Forest, bare, tree, same, cnt, body, isAdd, canHold}
-use Rattle.screen.specs.Open.{opens, Spot, innermost, grow}
-use Rattle.screen.specs.Standing.{reached, opening, openings, Labelled, Standing}
+use Rattle.screen.specs.Forest.{Forest, same, cnt, body, isAdd, canHold}
+use Rattle.screen.specs.Open.{opens, innermost, grow}
+use Rattle.screen.specs.Standing.{reached, opening, openings, Standing}
 use Rattle.screen.proofs.Counts.{same-self, same-other, labelled-past}
 use Rattle.screen.proofs.Grown.{grow-cnt, grow-openings, grow-held, grow-shallow, grow-opens, grow-opens-more, grow-labelled, opens-less}
 

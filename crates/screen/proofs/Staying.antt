@@ -1,10 +1,10 @@
 -- What is kept stays kept when rows are added at the end.
 use mathlib.Core.Path.{_≡_, refl, sym, ap, subst, _∙_}
-use mathlib.Core.Bool.{Bool, true, false, cond, not, _&&_, _||_}
+use mathlib.Core.Bool.{Bool, true, not, _&&_}
 use mathlib.Core.List.{List, [], _∷_, _++_}
-use Prim.Native.Nat.{ℕ, _+_, _<_, _≤_}
+use Prim.Native.Nat.{ℕ, _+_, _≤_}
 use native.Mathlib.Omega.{arith}
-use lib.Dec.{eqb, leb, ltb}
+use lib.Dec.{eqb}
 use lib.ListN.{length, getD}
 use Rattle.std.specs.declared.option.Option.{Option}
 use Rattle.std.specs.declared.option.Option.the-variants.{Some, None}
@@ -24,7 +24,6 @@ use Rattle.screen.specs.declared.scope.Status.{Status}
 use Rattle.screen.specs.declared.rows.IdentifierRow.{IdentifierRow}
 use Rattle.screen.specs.declared.rows.ReadRow.{ReadRow}
 use Rattle.screen.specs.declared.rows.ValueRow.{ValueRow}
-use Rattle.screen.specs.declared.value.Reads.{Reads}
 use Rattle.screen.specs.declared.value.Value.{Value}
 use Rattle.screen.specs.declared.value.Value.the-variants as value
 use Rattle.screen.specs.declared.entry.Entry.{Entry}
