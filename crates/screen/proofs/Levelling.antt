@@ -2,12 +2,11 @@
 use mathlib.Core.Path.{_≡_, refl, sym, ap, _∙_}
 use mathlib.Core.Bool.{Bool, true, false, _&&_}
 use mathlib.Core.List.{List, [], _∷_, _++_}
-use Prim.Native.Nat.{ℕ, _+_, _<_, _≤_}
-use native.Mathlib.Omega.{arith}
-use lib.Dec.{leb}
+use Prim.Native.Nat.{ℕ, _+_, _<_}
+use lib.Dec.{leb, ltb}
 use lib.ListN.{length, getD, set, take, drop}
 use Rattle.std.proofs.shelf.Lists.{drop-more, take-more-set}
-use Rattle.std.proofs.shelf.Tests.{lt-leb}
+use Rattle.std.proofs.shelf.Tests.{lt-leb, le-leb, ltb-false}
 use Rattle.screen.specs.Lists.{every}
 use Rattle.screen.specs.Levels.{levelAfter, levelsFrom, levelsOf}
 use Rattle.screen.specs.Named.{noValue}
@@ -46,3 +45,13 @@ levels-too-deep vs levels i h d =
     ap (every (λ n. leb n 64)) (levels-more vs levels i h)
     ∙ levels-spoilt (λ n. leb n 64) (levels ++ levelAfter levels (getD vs i noValue) ∷ []) (drop (i + 1) vs)
       (every-spoilt (λ n. leb n 64) levels (levelAfter levels (getD vs i noValue)) (lt-leb (levelAfter levels (getD vs i noValue)) 64 d))
+
+-- the level of one value more, behind those before it
+levels-end : (vs : List ValueRow) (levels : List ℕ) (v : ValueRow) → levelsFrom levels (vs ++ v ∷ []) ≡ levelsFrom levels vs ++ levelAfter (levelsFrom levels vs) v ∷ []
+levels-end [] levels v = refl
+levels-end (u ∷ vs) levels v = levels-end vs (levels ++ levelAfter levels u ∷ []) v
+
+pub levels-low : (vs : List ValueRow) (v : ValueRow) → every (λ n. leb n 64) (levelsOf vs) ≡ true → ltb 64 (levelAfter (levelsOf vs) v) ≡ false → every (λ n. leb n 64) (levelsOf (vs ++ v ∷ [])) ≡ true
+levels-low vs v h d =
+    ap (every (λ n. leb n 64)) (levels-end vs [] v)
+    ∙ every-push (λ n. leb n 64) (levelsOf vs) (levelAfter (levelsOf vs) v) h (le-leb (levelAfter (levelsOf vs) v) 64 (ltb-false 64 (levelAfter (levelsOf vs) v) d))

@@ -1,4 +1,12 @@
 pub mod Members
 pub mod Levelling
-pub mod NodeEntries
 pub mod Below
+pub mod Counts
+pub mod Grown
+pub mod StandingGrown
+pub mod Entered
+pub mod Staying
+pub mod Distinct
+pub mod Scoping
+pub mod Filling
+pub mod Forming

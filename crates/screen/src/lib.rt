@@ -2,6 +2,7 @@
 
 mod answer;
 mod entry;
+mod laws;
 mod node;
 mod rows;
 mod scope;
@@ -13,6 +14,7 @@ pub use answer::Refusal;
 pub use entry::Entry;
 pub use entry::Part;
 pub use entry::Put;
+pub use laws::formed_stands;
 pub use node::Node;
 pub use rows::DependencyRow;
 pub use rows::IdentifierRow;

@@ -10,7 +10,8 @@ use Rattle.screen.specs.declared.node.Node.{Node}
 use Rattle.screen.specs.Forest.{Forest, bare, tree, same, cnt, size, body}
 use Rattle.sheet.specs.declared.rows.NodeRow.{NodeRow}
 use Rattle.sheet.specs.Links.{row, headOf, Links}
-use Rattle.sheet.proofs.Frames.{same-self, determined}
+use Rattle.screen.proofs.Counts.{same-self}
+use Rattle.sheet.proofs.Frames.{determined}
 
 pub same-node : (k n : ℕ) → 0 < same k n → n ≡ k
 same-node k n h = grind (arith, tells)

@@ -1,35 +1,27 @@
 -- The innermost open node, and the way up from it.
 use mathlib.Core.Path.{_≡_, refl, sym, ap, subst, _∙_}
-use mathlib.Core.Bool.{true, not}
+use mathlib.Core.Bool.{true}
 use mathlib.Core.Logic.{_≢_}
 use mathlib.Core.List.{List}
 use Prim.Native.Nat.{ℕ, zero, suc, _+_, _-_, _<_, _≤_}
 use native.Mathlib.Omega.{arith}
 use native.Mathlib.Numerals.{sub-one}
 use lib.ListN.{length}
-use Rattle.std.proofs.shelf.Tests.{false≢true, and-parts, and-from}
+use Rattle.std.proofs.shelf.Tests.{false≢true}
 use Rattle.screen.specs.declared.node.Node.the-variants.{Body}
 use Rattle.screen.specs.declared.scope.Status.{Status}
 use Rattle.screen.specs.Entries.{nodeOf}
-use Rattle.screen.specs.Forest.{Forest, bare, tree, cnt, body, isAdd}
+use Rattle.screen.specs.Forest.{Forest, bare, tree, cnt, body}
 use Rattle.screen.specs.Open.{opens, Spot, innermost}
 use Rattle.sheet.specs.declared.rows.NodeRow.{NodeRow}
 use Rattle.sheet.specs.Links.{row, lastOf, Links}
-use Rattle.sheet.specs.Planted.{root, Planted}
-use Rattle.sheet.proofs.Frames.{same-self}
+use Rattle.sheet.specs.Planted.{root, nodesOf, Planted}
+use Rattle.screen.proofs.Counts.{same-self}
+use Rattle.screen.proofs.Grown.{inside}
+use Rattle.screen.proofs.StandingGrown.{standing-less}
 use Rattle.sheet.proofs.Appending.{Below}
 use Rattle.sheet.proofs.Joining.{last-within}
-use Rattle.sheet.proofs.Grown.{inside}
 use Rattle.sheet.proofs.Planting.{planted-once}
-
--- one node less is open
-opens-less : (d : ℕ) (f : Forest) → opens (suc d) f ≡ true → opens d f ≡ true
-opens-less zero f h = refl
-opens-less (suc d) bare h = h
-opens-less (suc d) (tree m y cs bare) h =
-    let k = and-parts (not (isAdd y)) (opens (suc d) cs) h in
-    and-from (not (isAdd y)) (opens d cs) (k .0) (opens-less d cs (k .1))
-opens-less (suc d) (tree m y cs (tree j z ds ts)) h = opens-less (suc d) (tree j z ds ts) h
 
 -- a node of f that is open, and the open node that holds it
 pub record Tip (rows : List NodeRow) (f : Forest) (here up : Spot) : Type 0 where
@@ -98,15 +90,7 @@ planted-up rows ss at f o h =
     record {
       links = h .links;
       idle = h .idle;
-      standing = record {
-        labelled = s .labelled;
-        once = s .once;
-        stands = s .stands;
-        holds = s .holds;
-        levels = s .levels;
-        last = opens-less o f (s .last);
-        few = omega (arith, s .few);
-      };
+      standing = standing-less (nodesOf rows) ss f o s;
       innermost-is = sym (t .parent-is) ∙ ap (λ n. row rows n .parent) (h .innermost-is);
     }
 

@@ -1,27 +1,16 @@
 -- What a write to a row leaves of a forest, and that the rows hold one forest at most.
 use mathlib.Core.Path.{_≡_, refl, sym, ap, subst, _∙_}
-use mathlib.Core.Logic.{_≢_}
 use mathlib.Core.List.{List}
-use Prim.Native.Nat.{ℕ, _+_, _<_, _≤_}
+use Prim.Native.Nat.{ℕ, _<_, _≤_}
 use native.Mathlib.Omega.{arith}
-use lib.ListN.{length, getD, set, length-set}
+use lib.ListN.{length, set, length-set}
 use lib.Seq.{getD-set-other}
-use lib.Dec.{eqb}
-use Rattle.std.proofs.shelf.Ways.{tells}
+use Rattle.screen.proofs.Counts.{same-self}
 use Rattle.screen.specs.declared.node.Node.{Node}
 use Rattle.screen.specs.Entries.{nodeOf}
-use Rattle.screen.specs.Forest.{Forest, bare, tree, same, cnt}
+use Rattle.screen.specs.Forest.{Forest, bare, tree, cnt}
 use Rattle.sheet.specs.declared.rows.NodeRow.{NodeRow}
 use Rattle.sheet.specs.Links.{row, noNode, headOf, lastOf, At, Links}
-
-pub same-self : (n : ℕ) → same n n ≡ 1
-same-self n = grind (arith, tells)
-
-pub same-other : (k n : ℕ) → k ≢ n → same k n ≡ 0
-same-other k n h = grind (arith, tells)
-
-pub apart : (k n : ℕ) → same k n ≡ 0 → k ≢ n
-apart k n h e = omega (arith, ap (λ x. same k x) e, same-self k)
 
 -- the first node of a forest is there
 pub head-in : (n : ℕ) (x : Node) (cs ss : Forest) → 1 ≤ cnt n (tree n x cs ss)

@@ -17,10 +17,11 @@ use Rattle.sheet.specs.declared.rows.NodeRow.{NodeRow}
 use Rattle.sheet.specs.Links.{row, noNode, headOf, lastFrom, lastOf, Links}
 use Rattle.sheet.specs.Planted.{root}
 use Rattle.sheet.specs.Appended.{attached, fresh, appended}
-use Rattle.sheet.proofs.Frames.{same-self, same-other, apart, at-agree, links-agree}
+use Rattle.screen.proofs.Counts.{same-self, same-other, apart}
+use Rattle.screen.proofs.Grown.{inside}
+use Rattle.sheet.proofs.Frames.{at-agree, links-agree}
 use Rattle.sheet.proofs.Appending.{attached-length}
 use Rattle.sheet.proofs.Joining.{attach}
-use Rattle.sheet.proofs.Grown.{inside}
 
 -- the rows hold g in place of f under q, and only rows of f changed
 pub record Grafted (rows rows′ : List NodeRow) (q : ℕ) (f g : Forest) : Type 0 where

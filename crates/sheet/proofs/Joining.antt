@@ -15,7 +15,8 @@ use Rattle.screen.specs.Forest.{Forest, bare, tree, _⊕_, same, cnt}
 use Rattle.sheet.specs.declared.rows.NodeRow.{NodeRow}
 use Rattle.sheet.specs.Links.{row, noNode, headOf, lastFrom, lastOf, At, Links}
 use Rattle.sheet.specs.Appended.{withEnds, withLast, withNext, attached}
-use Rattle.sheet.proofs.Frames.{same-self, at-agree, links-set}
+use Rattle.screen.proofs.Counts.{same-self, cnt-join}
+use Rattle.sheet.proofs.Frames.{at-agree, links-set}
 
 pub last-in : (d n : ℕ) (x : Node) (cs ss : Forest) → 1 ≤ cnt (lastFrom d (tree n x cs ss)) (tree n x cs ss)
 last-in d n x cs bare = omega (arith, same-self n)
@@ -24,10 +25,6 @@ last-in d n x cs (tree m y ds ts) = omega (arith, last-in n m y ds ts)
 pub last-within : (rows : List NodeRow) (p n : ℕ) (x : Node) (cs ss : Forest) → Links rows p (tree n x cs ss) → lastFrom n ss < length rows
 last-within rows p n x cs bare h = h .0 .within
 last-within rows p n x cs (tree m y ds ts) h = last-within rows p m y ds ts (h .2)
-
-pub cnt-join : (k : ℕ) (f g : Forest) → cnt k (f ⊕ g) ≡ cnt k f + cnt k g
-cnt-join k bare g = omega arith
-cnt-join k (tree n x cs ss) g = omega (arith, cnt-join k ss g)
 
 pub last-join : (d : ℕ) (f : Forest) (n : ℕ) (x : Node) (cs ss : Forest) → lastFrom d (f ⊕ tree n x cs ss) ≡ lastFrom n ss
 last-join d bare n x cs ss = refl

@@ -1,7 +1,6 @@
 pub mod Frames
 pub mod Appending
 pub mod Joining
-pub mod Grown
 pub mod Growing
 pub mod Planting
 pub mod Climbing

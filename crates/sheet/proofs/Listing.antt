@@ -22,7 +22,8 @@ use Rattle.screen.specs.Lines.{lineOf, linesOf}
 use Rattle.sheet.specs.declared.rows.NodeRow.{NodeRow}
 use Rattle.sheet.specs.Links.{row, headOf, Links}
 use Rattle.sheet.specs.Listed.{ScopeBelow}
-use Rattle.sheet.proofs.Frames.{same-self, same-other, apart, determined}
+use Rattle.screen.proofs.Counts.{same-self, same-other, apart}
+use Rattle.sheet.proofs.Frames.{determined}
 use Rattle.sheet.proofs.Sums.{size-fits}
 
 -- each Scope that a node of the forest opened is one of m

@@ -21,7 +21,7 @@ use Rattle.sheet.specs.declared.rows.ScopeRow.{ScopeRow}
 use Rattle.sheet.specs.Planted.{statusesOf}
 use Rattle.sheet.specs.Listed.{ScopeBelow}
 use Rattle.sheet.specs.Fitting.{ScopesNamed, nodeAt, statusAt, openers, one, OpenedOnce, Marked, markedBy, mayOpen}
-use Rattle.sheet.proofs.Frames.{same-self, same-other}
+use Rattle.screen.proofs.Counts.{same-self, same-other}
 use Rattle.sheet.proofs.Sums.{sum-more, sum-mono}
 
 pub as-long : (scopes : List ScopeRow) → length (statusesOf scopes) ≡ length scopes

@@ -11,7 +11,7 @@ use Rattle.screen.specs.Forest.{Forest, bare, tree, same, cnt, size}
 use Rattle.sheet.specs.declared.rows.NodeRow.{NodeRow}
 use Rattle.sheet.specs.Links.{Links}
 use Rattle.sheet.specs.Fitting.{sumBelow}
-use Rattle.sheet.proofs.Frames.{same-self, same-other}
+use Rattle.screen.proofs.Counts.{same-self, same-other}
 
 -- one more
 pub sum-more : (n : ℕ) (g : ℕ → ℕ) → sumBelow (n + 1) g ≡ g n + sumBelow n g

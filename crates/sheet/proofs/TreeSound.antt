@@ -23,7 +23,8 @@ use Rattle.sheet.specs.declared.rows.NodeRow.{NodeRow}
 use Rattle.sheet.specs.Links.{row, noNode, Links, Idle}
 use Rattle.sheet.specs.Planted.{Planted, nodesOf, root}
 use Rattle.sheet.specs.Fitting.{sumBelow, nodeAt, statusAt, Kept, expected, openers, one, OpenedOnce}
-use Rattle.sheet.proofs.Frames.{same-self, same-other, head-in, determined}
+use Rattle.screen.proofs.Counts.{same-self, same-other}
+use Rattle.sheet.proofs.Frames.{head-in, determined}
 use Rattle.sheet.proofs.Apart.{same-node, in-rows, distinct}
 use Rattle.sheet.proofs.Sums.{sum-like, sum-zero, sum-tight, sum-size, sum-total, totalOf}
 

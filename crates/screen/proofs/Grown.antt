@@ -8,12 +8,12 @@ use native.Mathlib.Omega.{arith}
 use lib.ListN.{length}
 use Rattle.std.proofs.shelf.Lists.{getD-append-left, getD-push, length-push}
 use Rattle.std.proofs.shelf.Tests.{false≢true, and-parts, and-from}
 use Rattle.screen.specs.declared.node.Node.{Node}
 use Rattle.screen.specs.declared.node.Node.the-variants.{Body}
 use Rattle.screen.specs.Forest.{Forest, bare, tree, _⊕_, same, cnt, isAdd, canHold, held, shallow}
 use Rattle.screen.specs.Open.{opens, Spot, innermost, grow}
 use Rattle.screen.specs.Standing.{opening, openings, Labelled}
-use Rattle.sheet.proofs.Joining.{cnt-join}
+use Rattle.screen.proofs.Counts.{cnt-join}
 
 -- what is open inside the last sibling
 pub inside : (d m : ℕ) (y : Node) (cs : Forest) → opens (suc d) (tree m y cs bare) ≡ true → opens d cs ≡ true
@@ -143,3 +143,12 @@ grow-labelled nodes (suc d) n x (tree m y cs bare) e h =
 grow-labelled nodes (suc d) n x (tree m y cs (tree j z ds ts)) e h =
     let l = labelled-more nodes x (tree m y cs (tree j z ds ts)) h in
     (l .0, l .1, l .2, grow-labelled nodes (suc d) n x (tree j z ds ts) e (h .3))
+
+-- one node less is open
+pub opens-less : (d : ℕ) (f : Forest) → opens (suc d) f ≡ true → opens d f ≡ true
+opens-less zero f h = refl
+opens-less (suc d) bare h = h
+opens-less (suc d) (tree m y cs bare) h =
+    let k = and-parts (not (isAdd y)) (opens (suc d) cs) h in
+    and-from (not (isAdd y)) (opens d cs) (k .0) (opens-less d cs (k .1))
+opens-less (suc d) (tree m y cs (tree j z ds ts)) h = opens-less (suc d) (tree j z ds ts) h
