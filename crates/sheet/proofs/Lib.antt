@@ -18,3 +18,4 @@ pub mod Examining
 pub mod Fresh
 pub mod NodeRowing
 pub mod Sounding
+pub mod Refusing

@@ -1,21 +1,24 @@
 //! Why an entry is refused, if it is.
 
 ghost use mathlib.Core.Path.{_≡_};
-ghost use Rattle.screen.specs.Refused.{full, putFull, partFull, noRoom, misplaced, crowded};
+ghost use Rattle.screen.specs.State.{State};
+ghost use Rattle.screen.specs.Refused.{refusedOf, topOf, full, putFull, partFull, noRoom, misplaced, crowded};
 ghost use Rattle.sheet.specs.Tables.{items, memory};
 ghost use Rattle.sheet.specs.Planted.{nodesOf, statusesOf};
-ghost use Rattle.sheet.specs.Holds.{declarationOf, rowsOf, Within};
+ghost use Rattle.sheet.specs.Holds.{declarationOf, rowsOf, Within, Holds, Sound};
 ghost use mathlib.Core.List.{map};
 
 use screen::Entry;
 use screen::Node;
 use screen::Part;
 use screen::Put;
+use screen::Refusal;
 
 use crate::rows::DeclarationRow;
 use crate::rows::NodeRow;
 use crate::rows::ScopeRow;
 use crate::sheet::Sheet;
+use crate::tree::open_count;
 
 /// The most nodes that may be open below the body.
 const MOST_OPEN: u32 = 63;
@@ -76,6 +79,33 @@ fn part_full(s: &Sheet<'_>, part: Part) -> bool
 }
 
 impl Sheet<'_> {
+    /// Why an entry is refused, if it is: the first reason that fits.
+    pub(crate) fn refusal(&self, entry: Entry) -> Option<Refusal>
+        requires { ⌜ Sound (memory (now self)) ⌝ }
+        ensures { λ r. ⌜ ((σ : State) → Holds (memory (now (self .entry))) σ → r ≡ refusedOf σ entry) ⌝ }
+    {
+        if !self.named(entry) {
+            return Some(Refusal::Row);
+        }
+        if self.used(entry) {
+            return Some(Refusal::Used);
+        }
+        if self.deep(entry) {
+            return Some(Refusal::Deep);
+        }
+        if self.no_room(entry) {
+            return Some(Refusal::Full);
+        }
+        let (open, top) = innermost(self);
+        if is_misplaced(top, open, entry) {
+            return Some(Refusal::Place);
+        }
+        if is_crowded(open, entry) {
+            return Some(Refusal::Open);
+        }
+        None
+    }
+
     /// Whether the entry's table is at its limit.
     pub(crate) fn no_room(&self, entry: Entry) -> bool
         requires { ⌜ Within (memory (now self)) ⌝ }
@@ -89,6 +119,16 @@ impl Sheet<'_> {
             Entry::Close | Entry::List => false,
         }
     }
+}
+
+/// How many nodes below the body are open, and what the innermost one is.
+fn innermost(s: &Sheet<'_>) -> (u32, Node)
+    requires { ⌜ Sound (memory (now s)) ⌝ }
+    ensures { λ r. ⌜ ((σ : State) → Holds (memory (now (s .entry))) σ → (r .0 ≡ σ .opened) × (r .1 ≡ topOf σ)) ⌝ }
+{
+    let nodes = s.nodes.put();
+    let at = s.innermost;
+    (open_count(nodes, at), Node::made_by(nodes[at as usize].made))
 }
 
 /// Whether the innermost open node cannot hold this child, or Close finds only the body open.
