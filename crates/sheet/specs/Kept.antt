@@ -3,7 +3,7 @@ use mathlib.Core.Path.{_≡_}
 use mathlib.Core.List.{List}
 use Prim.Native.Nat.{ℕ, _≤_}
 use lib.ListN.{length, drop}
-use Rattle.sheet.specs.Tables.{Stored, Memory}
+use Rattle.sheet.specs.Tables.{Stored, Memory, WorkMemory}
 
 -- each table is as long as its limit
 pub record Long (m : Memory) : Type 0 where
@@ -35,3 +35,16 @@ pub record RestKept (old new : Memory) : Type 0 where
   pub values : Rest (old .values) (new .values)
   pub shapes : Rest (old .shapes) (new .shapes)
   pub nodes : Rest (old .nodes) (new .nodes)
+
+-- each work table is as long as its limit
+pub record WorkLong (w : WorkMemory) : Type 0 where
+  pub lines : 1024 ≤ length (w .lines)
+  pub uses : 1024 ≤ length (w .uses)
+  pub sources : 1024 ≤ length (w .sources)
+  pub targets : 1024 ≤ length (w .targets)
+  pub scratch : 1024 ≤ length (w .scratch)
+
+-- every table is as long as its limit
+pub record AllLong (m : Memory) (w : WorkMemory) : Type 0 where
+  pub sheet : Long m
+  pub work : WorkLong w

@@ -14,3 +14,4 @@ pub mod Walks
 pub mod Kept
 pub mod NodeRows
 pub mod Examined
+pub mod Takes

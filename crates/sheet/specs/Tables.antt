@@ -14,7 +14,9 @@ use Rattle.sheet.specs.declared.rows.ScopeRow.{ScopeRow}
 use Rattle.sheet.specs.declared.rows.DeclarationRow.{DeclarationRow}
 use Rattle.sheet.specs.declared.rows.NodeRow.{NodeRow}
 use Rattle.sheet.specs.declared.table.Table.{Table}
+use Rattle.screen.specs.declared.answer.Line.{Line}
 use Rattle.sheet.specs.declared.sheet.Sheet.{Sheet}
+use Rattle.sheet.specs.declared.sheet.Work.{Work}
 
 -- a table's rows, and how many of them are put
 pub record Stored (T : Type 0) : Type 0 where
@@ -62,3 +64,14 @@ memory s =
       nodes = stored (s .nodes);
       innermost = s .innermost;
     }
+
+-- the memory of the work tables
+pub record WorkMemory : Type 0 where
+  pub lines : List Line
+  pub uses : List ℕ
+  pub sources : List ℕ
+  pub targets : List ℕ
+  pub scratch : List DependencyRow
+
+abbrev pub workMemory : Work → WorkMemory
+workMemory w = record { lines = now (w .lines); uses = now (w .uses); sources = now (w .sources); targets = now (w .targets); scratch = now (w .scratch) }

@@ -8,6 +8,7 @@ mod rows;
 mod sheet;
 mod sound;
 mod table;
+mod take;
 mod tree;
 mod users;
 mod write;

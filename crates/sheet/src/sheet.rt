@@ -30,8 +30,13 @@ pub struct Sheet<'a> {
     pub innermost: u32,
 }
 
-/// What only a call needs: the lines of a list, and the tables that a Merge works with.
+/// What only a call needs: the lines of a list, and what a Merge works with, the last use and the source of each declaration (the number
+/// and one more, 0 for none), which declarations are targets, and a list of dependencies.
 #[derive(Drop)]
 pub struct Work<'a> {
     pub lines: &'a mut [Line],
+    pub uses: &'a mut [u32],
+    pub sources: &'a mut [u32],
+    pub targets: &'a mut [u8],
+    pub scratch: &'a mut [DependencyRow],
 }
