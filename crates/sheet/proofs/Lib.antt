@@ -16,3 +16,5 @@ pub mod Walking
 pub mod Marking
 pub mod Gathering
 pub mod Examining
+pub mod Ending
+pub mod Forming
