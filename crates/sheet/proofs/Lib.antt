@@ -1,4 +1,5 @@
 pub mod Frames
+pub mod Storing
 pub mod Appending
 pub mod Joining
 pub mod Grown
@@ -18,3 +19,6 @@ pub mod Gathering
 pub mod Examining
 pub mod Ending
 pub mod Forming
+pub mod Accepting
+pub mod Parting
+pub mod Holding
