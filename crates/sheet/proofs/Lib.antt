@@ -22,3 +22,4 @@ pub mod Forming
 pub mod Accepting
 pub mod Parting
 pub mod Holding
+pub mod Declaring
