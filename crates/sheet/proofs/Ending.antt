@@ -6,7 +6,7 @@ use Prim.Native.Nat.{ℕ, zero, suc, _+_, _-_, _<_, _≤_}
 use native.Mathlib.Omega.{arith}
 use lib.Dec.{ltb}
 use lib.ListN.{length}
-use Rattle.std.proofs.shelf.Tests.{cond-true, cond-false, lt-ltb, le-ltb}
+use Rattle.std.proofs.shelf.Tests.{cond-true, cond-false, cond-both, lt-ltb, le-ltb, ltb-true}
 use Rattle.sheet.specs.declared.rows.DeclarationRow.{DeclarationRow}
 use Rattle.sheet.specs.Chains.{nextDeclaration}
 use Rattle.sheet.specs.Ends.{endFrom, endOf}
@@ -22,3 +22,10 @@ end-here n i rows a h l = end-step n i rows a h ∙ cond-false (ltb (nextDeclara
 
 pub end-next : (n i : ℕ) (rows : List DeclarationRow) (a : ℕ) → i < n → nextDeclaration rows a < length rows → endFrom (n - i) rows a ≡ endFrom (n - (i + 1)) rows (nextDeclaration rows a)
 end-next n i rows a h l = end-step n i rows a h ∙ cond-true (ltb (nextDeclaration rows a) (length rows)) (endFrom (n - (i + 1)) rows (nextDeclaration rows a)) a (lt-ltb (nextDeclaration rows a) (length rows) l)
+
+-- the end is a row
+pub end-low : (n : ℕ) (rows : List DeclarationRow) (a : ℕ) → a < length rows → endFrom n rows a < length rows
+end-low zero rows a h = h
+end-low (suc n) rows a h =
+    cond-both (ltb (nextDeclaration rows a) (length rows)) (endFrom n rows (nextDeclaration rows a)) a (λ i. i < length rows)
+    (λ e. end-low n rows (nextDeclaration rows a) (ltb-true (nextDeclaration rows a) (length rows) e)) (λ e. h)

@@ -23,3 +23,5 @@ pub mod Accepting
 pub mod Parting
 pub mod Holding
 pub mod Declaring
+pub mod Rooms
+pub mod Keeping

@@ -49,13 +49,18 @@ pub record ChildRoom (m : Memory) : Type 0 where
   pub within : m .innermost < m .nodes .count
   pub last : (row (items (m .nodes)) (m .innermost) .last ≡ 4294967295 → ⊥) → row (items (m .nodes)) (m .innermost) .last < m .nodes .count
 
--- a Scope to be opened has a row
+-- Scope k is put
+pub record ScopeRoom (m : Memory) (k : ℕ) : Type 0 where
+  pub put : k < m .scopes .count
+  pub within : within (m .scopes)
+
+-- a Scope to be opened is put
 abbrev pub OpenRoom : Memory → Node → Type 0
 OpenRoom m node.Body = Unit {0}
 OpenRoom m (node.Add o v t) = Unit {0}
 OpenRoom m (node.Terminal k o v) = Unit {0}
 OpenRoom m node.Arm = Unit {0}
-OpenRoom m (node.Scope k) = k < length (m .scopes .rows)
+OpenRoom m (node.Scope k) = ScopeRoom m k
 OpenRoom m (node.Pruned k) = Unit {0}
 
 pub record NodeRoom (m : Memory) (x : Node) : Type 0 where

@@ -6,7 +6,7 @@ ghost use lib.ListN.{length};
 ghost use Rattle.sheet.specs.Tables.{memory};
 ghost use Rattle.sheet.specs.Ends.{endOf};
 ghost use Rattle.sheet.specs.Written.{putIn, partIn, valueIn, withScopes, withNodes, changeScope, declaredFirst, declaredNext, firstDeclared, lastScope, startingAt, standing, reassigning, NodePut, NodeIn, closedIn, Wrote};
-ghost use Rattle.sheet.specs.Room.{PutRoom, Room, LastRoom, DeclarationRoom, PartRoom, ChildRoom, NodeRoom, EntryRoom};
+ghost use Rattle.sheet.specs.Room.{PutRoom, Room, LastRoom, DeclarationRoom, PartRoom, ScopeRoom, ChildRoom, NodeRoom, EntryRoom};
 
 use block::Record;
 use screen::Entry;
@@ -121,7 +121,7 @@ impl Sheet<'_> {
 
     /// Makes a Scope stand.
     fn stand(&mut self, scope: u32)
-        requires { ⌜ scope < length (memory (now self) .scopes .rows) ⌝ }
+        requires { ⌜ ScopeRoom (memory (now self)) scope ⌝ }
         ensures { λ _. ⌜ memory (now (self .exit)) ≡ withScopes (memory (now (self .entry))) (changeScope (memory (now (self .entry)) .scopes) scope standing) ⌝ }
     {
         let row = self.scopes.rows[scope as usize];
