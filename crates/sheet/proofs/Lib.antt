@@ -25,3 +25,4 @@ pub mod Holding
 pub mod Declaring
 pub mod Rooms
 pub mod Keeping
+pub mod Writing

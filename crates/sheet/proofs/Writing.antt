@@ -1,0 +1,280 @@
+-- The tables hold the sheet after an accepted entry.
+use borrow.Author.Needs.{needs}
+use mathlib.Core.Path.{_≡_, refl, sym, ap, subst, _∙_}
+use mathlib.Core.Bool.{Bool, true, false, cond, not, _&&_}
+use mathlib.Core.Logic.{_≢_}
+use mathlib.Core.List.{List, [], _∷_, _++_, map}
+use Prim.Native.Nat.{ℕ, zero, suc, _+_, _-_, _<_, _≤_}
+use native.Mathlib.Omega.{arith}
+use lib.Dec.{eqb, leb, ltb}
+use lib.ListN.{length, getD, set, take, length-set, length-map}
+use Rattle.std.specs.declared.option.Option.the-variants.{Some, None}
+use Rattle.std.proofs.shelf.Lists.{getD-take, map-push, map-set, set-getD, length-push}
+use Rattle.std.proofs.shelf.Tests.{and-parts, and-from, eqb-true, eqb-false, leb-false, ltb-true, not-false}
+use Rattle.block.specs.declared.record.Record.{Record}
+use Rattle.screen.specs.declared.entry.Put.{Put}
+use Rattle.screen.specs.declared.entry.Put.the-variants as put
+use Rattle.screen.specs.declared.entry.Part.{Part}
+use Rattle.screen.specs.declared.entry.Part.the-variants as part
+use Rattle.screen.specs.declared.node.Node.{Node}
+use Rattle.screen.specs.declared.node.Node.the-variants as node
+use Rattle.screen.specs.declared.scope.Status.{Status}
+use Rattle.screen.specs.declared.scope.Status.the-variants.{Unused, Standing as Stood, Joined, Flattened}
+use Rattle.screen.specs.declared.rows.ValueRow.{ValueRow}
+use Rattle.screen.specs.declared.entry.Entry.{Entry}
+use Rattle.screen.specs.declared.entry.Entry.the-variants as entry
+use Rattle.screen.specs.Entries.{entryOf, nodeOf, nodeBy}
+use Rattle.screen.specs.Forest.{Forest, isAdd, canHold}
+use Rattle.screen.specs.Open.{innermost, grow}
+use Rattle.screen.specs.Lists.{every, gathered}
+use Rattle.screen.specs.State.{State, Rows, Scope}
+use Rattle.screen.specs.Statuses.{isUnused}
+use Rattle.screen.specs.Standing.{Standing}
+use Rattle.screen.specs.Refused.{statuses, topOf, refusedOf}
+use Rattle.screen.specs.WellFormed.{WellFormed, isListed}
+use Rattle.screen.specs.Step as step
+use Rattle.screen.specs.Step.{also, altered, alteredLast, declaring, reassigned, stood, rowsAfter, after}
+use Rattle.screen.proofs.Members.{every-append}
+use Rattle.sheet.specs.declared.rows.ScopeRow.{ScopeRow}
+use Rattle.sheet.specs.declared.rows.DeclarationRow.{DeclarationRow}
+use Rattle.sheet.specs.declared.rows.NodeRow.{NodeRow}
+use Rattle.sheet.specs.Tables.{Stored, Memory, items, within}
+use Rattle.sheet.specs.Chains.{noScope, noDeclaration, ScopeHeld, Chained}
+use Rattle.sheet.specs.Links.{row, noRecord, noNode}
+use Rattle.sheet.specs.Ends.{endOf}
+use Rattle.sheet.specs.Appended.{withEnds, withLast, withNext, attached, appended}
+use Rattle.sheet.specs.Appended as appending
+use Rattle.sheet.specs.Planted.{root, nodesOf, Planted}
+use Rattle.sheet.specs.Holds.{declarationOf, rowsOf, Within, recordsListed, Holds}
+use Rattle.sheet.specs.Room.{PutRoom, LastRoom, DeclarationRoom, PartRoom, Room, EntryRoom, NodeRoom}
+use Rattle.sheet.specs.Written.{pushed, changed, putIn, newScope, partIn, newDeclaration, followedBy, startingAt, reassigning, standing, changeScope, changeDeclaration, lastScope, firstDeclared, declaredFirst, declaredNext, valueIn, withNodes, withScopes, withInnermost, NodePut, nodeIn, closedIn, Wrote}
+use Rattle.sheet.proofs.Storing.{items-many, pushed-items, pushed-within, changed-items, changed-within}
+use Rattle.sheet.proofs.Planting.{set-made, appended-nodes, planted-add, planted-open, planted-scope}
+use Rattle.sheet.proofs.Climbing.{innermost-within, only-body, planted-close}
+use Rattle.sheet.proofs.Accepting.{Accepted, accepted, same-refused}
+use Rattle.sheet.proofs.Holding.{blank, held-many, chained-new, chained-changed}
+use Rattle.sheet.proofs.Declaring.{linked, chained-first, chained-next, end-within}
+use Rattle.sheet.proofs.Ending.{end-low}
+use Rattle.sheet.proofs.Rooms.{scopes-many, declarations-many, dependencies-many, nodes-many, declared-put, last-row, entry-room}
+use Rattle.sheet.proofs.Forming.{formed-after}
+
+pub chained-for : (S S′ : List ScopeRow) (D D′ : List DeclarationRow) (ss ss′ : List Scope) → S′ ≡ S → D′ ≡ D → ss′ ≡ ss → Chained S D ss → Chained S′ D′ ss′
+chained-for S S′ D D′ ss ss′ e f g c =
+    subst (λ (x : List ScopeRow). Chained x D′ ss′) (sym e) (subst (λ (x : List DeclarationRow). Chained S x ss′) (sym f) (subst (λ (x : List Scope). Chained S D x) (sym g) c))
+
+-- a declaration that is linked otherwise is the same
+linked-same : (xs : List DeclarationRow) (k n : ℕ) → map declarationOf (set xs k (followedBy n (getD xs k noDeclaration))) ≡ map declarationOf xs
+linked-same xs k n =
+    map-set declarationOf xs k (followedBy n (getD xs k noDeclaration)) ∙ sym (map-set declarationOf xs k (getD xs k noDeclaration)) ∙ ap (λ l. map declarationOf l) (set-getD xs k noDeclaration)
+
+module _ (m : Memory) (σ : State) (h : Holds m σ) where
+  -- the tree among Scopes that may stand otherwise
+  planted-among : (ss : List Status) → Standing (σ .rows .nodes) ss (σ .tree) (σ .opened) → Planted (items (m .nodes)) ss (m .innermost) (σ .tree) (σ .opened)
+  planted-among ss s =
+      record {
+        links = h .planted .links;
+        idle = h .planted .idle;
+        standing = subst (λ (ns : List Node). Standing ns ss (σ .tree) (σ .opened)) (sym (ap (λ w. w .nodes) (h .rows))) s;
+        innermost-is = h .planted .innermost-is;
+      }
+
+  scope-holds : (a z : ℕ) → Room (m .scopes) → WellFormed (after σ (entry.Put (put.Scope a z))) → Holds (putIn m (put.Scope a z)) (after σ (entry.Put (put.Scope a z)))
+  scope-holds a z r w =
+      let S = items (m .scopes) in
+      let D = items (m .declarations) in
+      record {
+        counts = let c = h .counts in let n = pushed-within (m .scopes) (newScope a z (m .dependencies .count)) (r .left) in search needs;
+        rows = h .rows;
+        chained = chained-for (S ++ newScope a z (m .dependencies .count) ∷ []) _ D D (σ .scopes ++ step.fresh a z (m .dependencies .count) ∷ []) _
+          (pushed-items (m .scopes) (newScope a z (m .dependencies .count)) (r .left)) refl (ap (λ n. σ .scopes ++ step.fresh a z n ∷ []) (dependencies-many m σ h))
+          (chained-new S D (σ .scopes) (h .chained) (h .formed .scopes .merged-put) a z (m .dependencies .count));
+        records = h .records;
+        planted = planted-among (statuses (also (σ .scopes) (step.fresh a z (length (σ .rows .dependencies))))) (w .tree);
+        formed = w;
+      }
+
+  put-holds : (p : Put) → PutRoom m p → WellFormed (after σ (entry.Put p)) → Holds (putIn m p) (after σ (entry.Put p))
+  put-holds (put.Type t) r w =
+      record {
+        counts = let c = h .counts in let n = pushed-within (m .types) t (r .left) in search needs;
+        rows = ap (λ xs. step.withTypes (rowsOf m) xs) (pushed-items (m .types) t (r .left)) ∙ ap (λ v. rowsAfter v (entry.Put (put.Type t))) (h .rows);
+        chained = h .chained;
+        records = h .records;
+        planted = h .planted;
+        formed = w;
+      }
+  put-holds (put.Identifier i) r w =
+      record {
+        counts = let c = h .counts in let n = pushed-within (m .identifiers) i (r .left) in search needs;
+        rows = ap (λ xs. step.withIdentifiers (rowsOf m) xs) (pushed-items (m .identifiers) i (r .left)) ∙ ap (λ v. rowsAfter v (entry.Put (put.Identifier i))) (h .rows);
+        chained = h .chained;
+        records = h .records;
+        planted = h .planted;
+        formed = w;
+      }
+  put-holds (put.Path p) r w =
+      record {
+        counts = let c = h .counts in let n = pushed-within (m .paths) p (r .left) in search needs;
+        rows = ap (λ xs. step.withPaths (rowsOf m) xs) (pushed-items (m .paths) p (r .left)) ∙ ap (λ v. rowsAfter v (entry.Put (put.Path p))) (h .rows);
+        chained = h .chained;
+        records = h .records;
+        planted = h .planted;
+        formed = w;
+      }
+  put-holds (put.Scope a z) r w = scope-holds a z r w
+  put-holds (put.Read x) r w =
+      record {
+        counts = let c = h .counts in let n = pushed-within (m .reads) x (r .left) in search needs;
+        rows = ap (λ xs. step.withReads (rowsOf m) xs) (pushed-items (m .reads) x (r .left)) ∙ ap (λ v. rowsAfter v (entry.Put (put.Read x))) (h .rows);
+        chained = h .chained;
+        records = h .records;
+        planted = h .planted;
+        formed = w;
+      }
+  put-holds (put.Shape s) r w =
+      record {
+        counts = let c = h .counts in let n = pushed-within (m .shapes) s (r .left) in search needs;
+        rows = ap (λ xs. step.withShapes (rowsOf m) xs) (pushed-items (m .shapes) s (r .left)) ∙ ap (λ v. rowsAfter v (entry.Put (put.Shape s))) (h .rows);
+        chained = h .chained;
+        records = h .records;
+        planted = h .planted;
+        formed = w;
+      }
+
+  value-holds : (v : ValueRow) → Room (m .values) → WellFormed (after σ (entry.Value v)) → Holds (valueIn m v) (after σ (entry.Value v))
+  value-holds x r w =
+      record {
+        counts = let c = h .counts in let n = pushed-within (m .values) x (r .left) in search needs;
+        rows = ap (λ xs. step.withValues (rowsOf m) xs) (pushed-items (m .values) x (r .left)) ∙ ap (λ v. rowsAfter v (entry.Value x)) (h .rows);
+        chained = h .chained;
+        records = h .records;
+        planted = h .planted;
+        formed = w;
+      }
+
+  -- Scope k's row changed, and the row that the rows that are put have for it
+  row-put : (k : ℕ) → k < m .scopes .count → getD (items (m .scopes)) k noScope ≡ getD (m .scopes .rows) k noScope
+  row-put k l = getD-take (m .scopes .count) (m .scopes .rows) k noScope l
+
+  changed-scopes : (k : ℕ) (f : ScopeRow → ScopeRow) → k < m .scopes .count → items (changeScope (m .scopes) k f) ≡ set (items (m .scopes)) k (f (getD (items (m .scopes)) k noScope))
+  changed-scopes k f l = changed-items (m .scopes) (f (getD (m .scopes .rows) k noScope)) k ∙ ap (λ r. set (items (m .scopes)) k (f r)) (sym (row-put k l))
+
+  -- the Scope put last, by the sheet
+  last-is : length (σ .scopes) - 1 ≡ lastScope m
+  last-is = ap (λ n. n - 1) (sym (length-map (σ .scopes) (λ k. k .status)) ∙ scopes-many m σ h)
+
+  reassignment-holds : (i : ℕ) → LastRoom m → WellFormed (after σ (entry.Part (part.Reassignment i))) → Holds (partIn m (part.Reassignment i)) (after σ (entry.Part (part.Reassignment i)))
+  reassignment-holds i r w =
+      let S = items (m .scopes) in
+      let D = items (m .declarations) in
+      let l = lastScope m in
+      record {
+        counts = let c = h .counts in let n = changed-within (m .scopes) (reassigning (getD (m .scopes .rows) l noScope)) l (c .scopes) in search needs;
+        rows = h .rows;
+        chained = chained-for (set S l (reassigning (getD S l noScope))) _ D D (altered (σ .scopes) l reassigned) _
+          (changed-scopes l reassigning (omega (arith, r .some))) refl (ap (λ k. altered (σ .scopes) k reassigned) last-is)
+          (chained-changed S D (σ .scopes) (h .chained) l (omega (arith, r .some, items-many (m .scopes) (h .counts .scopes))) reassigning reassigned (λ r. refl) (λ s. refl) (λ s. refl)
+            (λ T r s k. record { start-is = k .start-is; end-is = k .end-is; status-is = k .status-is; status-small = k .status-small; reassigns-is = refl; begin-is = k .begin-is; declares = k .declares; merged = k .merged }));
+        records = h .records;
+        planted = planted-among (statuses (alteredLast (σ .scopes) reassigned)) (w .tree);
+        formed = w;
+      }
+
+  module _ (k d : ℕ) (r : DeclarationRoom m) (w : WellFormed (after σ (entry.Part (part.Declaration k d)))) where
+    few-put : length (items (m .declarations)) ≤ 1024
+    few-put = omega (arith, r .room .few, items-many (m .declarations) (h .counts .declarations))
+
+    last-in : lastScope m < length (items (m .scopes))
+    last-in = omega (arith, r .last .some, items-many (m .scopes) (h .counts .scopes))
+
+    first-same : getD (items (m .scopes)) (lastScope m) noScope .first ≡ firstDeclared m
+    first-same = ap (λ r. r .first) (row-put (lastScope m) (omega (arith, r .last .some)))
+
+    -- the new row's number, by the rows that are put and by the sheet
+    number-is : length (items (m .declarations)) ≡ m .declarations .count
+    number-is = items-many (m .declarations) (h .counts .declarations)
+
+    declared-is : alteredLast (σ .scopes) (declaring (length (σ .rows .declarations))) ≡ altered (σ .scopes) (lastScope m) (declaring (length (items (m .declarations))))
+    declared-is =
+        ap (λ n. alteredLast (σ .scopes) (declaring n)) (declarations-many m σ h ∙ sym number-is) ∙ ap (λ l. altered (σ .scopes) l (declaring (length (items (m .declarations))))) last-is
+
+    wide-is : items (pushed (m .declarations) (newDeclaration k d)) ≡ items (m .declarations) ++ newDeclaration k d ∷ []
+    wide-is = pushed-items (m .declarations) (newDeclaration k d) (r .room .left)
+
+    declared-rows : map declarationOf (items (m .declarations) ++ newDeclaration k d ∷ []) ≡ map declarationOf (items (m .declarations)) ++ record { key = k; declared = d } ∷ []
+    declared-rows = map-push declarationOf (items (m .declarations)) (newDeclaration k d)
+
+    first-holds : firstDeclared m ≡ 4294967295 → Holds (declaredFirst m k d) (after σ (entry.Part (part.Declaration k d)))
+    first-holds none =
+        let S = items (m .scopes) in
+        let D = items (m .declarations) in
+        let l = lastScope m in
+        record {
+          counts =
+            let c = h .counts in
+            let n = pushed-within (m .declarations) (newDeclaration k d) (r .room .left) in
+            let x = changed-within (m .scopes) (startingAt (m .declarations .count) (getD (m .scopes .rows) l noScope)) l (c .scopes) in
+            search needs;
+          rows = ap (λ xs. step.withDeclarations (rowsOf m) xs) (ap (λ xs. map declarationOf xs) wide-is ∙ declared-rows) ∙ ap (λ v. rowsAfter v (entry.Part (part.Declaration k d))) (h .rows);
+          chained = chained-for (set S l (startingAt (length D) (getD S l noScope))) _ (D ++ newDeclaration k d ∷ []) _ (altered (σ .scopes) l (declaring (length D))) _
+            (changed-scopes l (startingAt (m .declarations .count)) (omega (arith, r .last .some)) ∙ ap (λ n. set S l (startingAt n (getD S l noScope))) (sym number-is)) wide-is declared-is
+            (chained-first S D (σ .scopes) (h .chained) l last-in (h .formed .scopes .declared) (declared-put m σ h) few-put k d (first-same ∙ none));
+          records = h .records;
+          planted = planted-among (statuses (alteredLast (σ .scopes) (declaring (length (σ .rows .declarations))))) (w .tree);
+          formed = w;
+        }
+
+    module _ (some : firstDeclared m ≡ 4294967295 → ⊥) where
+      end-put : endOf (items (m .declarations)) (firstDeclared m) < m .declarations .count
+      end-put = omega (arith, number-is, end-low (length (items (m .declarations))) (items (m .declarations)) (firstDeclared m) (omega (arith, number-is, r .first some)))
+
+      linked-is : items (changeDeclaration (pushed (m .declarations) (newDeclaration k d)) (endOf (items (m .declarations)) (firstDeclared m)) (followedBy (m .declarations .count)))
+        ≡ linked (items (m .declarations)) k d (firstDeclared m)
+      linked-is =
+          let D = items (m .declarations) in
+          let wide : Stored DeclarationRow = pushed (m .declarations) (newDeclaration k d) in
+          let at : ℕ = endOf D (firstDeclared m) in
+          changed-items wide (followedBy (m .declarations .count) (getD (wide .rows) at noDeclaration)) at
+          ∙ ap (λ x. set (items wide) at (followedBy (m .declarations .count) x)) (sym (getD-take (m .declarations .count + 1) (wide .rows) at noDeclaration (omega (arith, end-put))))
+          ∙ ap (λ x. set x at (followedBy (m .declarations .count) (getD x at noDeclaration))) wide-is
+          ∙ ap (λ n. set (D ++ newDeclaration k d ∷ []) at (followedBy n (getD (D ++ newDeclaration k d ∷ []) at noDeclaration))) (sym number-is)
+
+      next-holds : Holds (declaredNext m k d) (after σ (entry.Part (part.Declaration k d)))
+      next-holds =
+          let S = items (m .scopes) in
+          let D = items (m .declarations) in
+          let l = lastScope m in
+          let wide : Stored DeclarationRow = pushed (m .declarations) (newDeclaration k d) in
+          let at : ℕ = endOf D (firstDeclared m) in
+          record {
+            counts =
+              let c = h .counts in
+              let x = changed-within wide (followedBy (m .declarations .count) (getD (wide .rows) at noDeclaration)) at (pushed-within (m .declarations) (newDeclaration k d) (r .room .left)) in
+              search needs;
+            rows =
+              ap (λ xs. step.withDeclarations (rowsOf m) xs) (ap (λ xs. map declarationOf xs) linked-is ∙ linked-same (D ++ newDeclaration k d ∷ []) at (length D) ∙ declared-rows)
+              ∙ ap (λ v. rowsAfter v (entry.Part (part.Declaration k d))) (h .rows);
+            chained = chained-for S S (linked D k d (getD S l noScope .first)) _ (altered (σ .scopes) l (declaring (length D))) _
+              refl (linked-is ∙ ap (λ a. linked D k d a) (sym first-same)) declared-is
+              (chained-next S D (σ .scopes) (h .chained) l last-in (h .formed .scopes .declared) (declared-put m σ h) few-put k d (λ e. some (sym first-same ∙ e)));
+            records = h .records;
+            planted = planted-among (statuses (alteredLast (σ .scopes) (declaring (length (σ .rows .declarations))))) (w .tree);
+            formed = w;
+          }
+
+  part-holds : (p : Part) → PartRoom m p → WellFormed (after σ (entry.Part p)) → Holds (partIn m p) (after σ (entry.Part p))
+  part-holds (part.Dependency x) r w =
+      record {
+        counts = let c = h .counts in let n = pushed-within (m .dependencies) x (r .left) in search needs;
+        rows = ap (λ xs. step.withDependencies (rowsOf m) xs) (pushed-items (m .dependencies) x (r .left)) ∙ ap (λ v. rowsAfter v (entry.Part (part.Dependency x))) (h .rows);
+        chained = h .chained;
+        records = h .records;
+        planted = h .planted;
+        formed = w;
+      }
+  part-holds (part.Declaration k d) r w = go (eqb (firstDeclared m) 4294967295) refl
+    where
+      go : (b : Bool) → eqb (firstDeclared m) 4294967295 ≡ b → Holds (cond b (declaredFirst m k d) (declaredNext m k d)) (after σ (entry.Part (part.Declaration k d)))
+      go true e = first-holds k d r w (eqb-true (firstDeclared m) 4294967295 e)
+      go false e = next-holds k d r w (eqb-false (firstDeclared m) 4294967295 e)
+  part-holds (part.Reassignment i) r w = reassignment-holds i r w
