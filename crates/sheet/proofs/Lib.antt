@@ -25,4 +25,5 @@ pub mod Holding
 pub mod Declaring
 pub mod Rooms
 pub mod Keeping
+pub mod Recording
 pub mod Writing

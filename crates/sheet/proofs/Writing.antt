@@ -10,7 +10,7 @@ use lib.Dec.{eqb, leb, ltb}
 use lib.ListN.{length, getD, set, take, length-set, length-map}
 use Rattle.std.specs.declared.option.Option.the-variants.{Some, None}
 use Rattle.std.proofs.shelf.Lists.{getD-take, map-push, map-set, set-getD, length-push}
-use Rattle.std.proofs.shelf.Tests.{and-parts, and-from, eqb-true, eqb-false, leb-false, ltb-true, not-false}
+use Rattle.std.proofs.shelf.Tests.{and-parts, and-from, eqb-true, eqb-false, leb-false, ltb-true, not-false, true≢false}
 use Rattle.block.specs.declared.record.Record.{Record}
 use Rattle.screen.specs.declared.entry.Put.{Put}
 use Rattle.screen.specs.declared.entry.Put.the-variants as put
@@ -49,13 +49,14 @@ use Rattle.sheet.specs.Holds.{declarationOf, rowsOf, Within, recordsListed, Ho
 use Rattle.sheet.specs.Room.{PutRoom, LastRoom, DeclarationRoom, PartRoom, Room, EntryRoom, NodeRoom}
 use Rattle.sheet.specs.Written.{pushed, changed, putIn, newScope, partIn, newDeclaration, followedBy, startingAt, reassigning, standing, changeScope, changeDeclaration, lastScope, firstDeclared, declaredFirst, declaredNext, valueIn, withNodes, withScopes, withInnermost, NodePut, nodeIn, closedIn, Wrote}
 use Rattle.sheet.proofs.Storing.{items-many, pushed-items, pushed-within, changed-items, changed-within}
-use Rattle.sheet.proofs.Planting.{set-made, appended-nodes, planted-add, planted-open, planted-scope}
+use Rattle.sheet.proofs.Planting.{isScope, appended-nodes, planted-add, planted-open, planted-scope}
 use Rattle.sheet.proofs.Climbing.{innermost-within, only-body, planted-close}
 use Rattle.sheet.proofs.Accepting.{Accepted, accepted, same-refused}
 use Rattle.sheet.proofs.Holding.{blank, held-many, chained-new, chained-changed}
 use Rattle.sheet.proofs.Declaring.{linked, chained-first, chained-next, end-within}
 use Rattle.sheet.proofs.Ending.{end-low}
 use Rattle.sheet.proofs.Rooms.{scopes-many, declarations-many, dependencies-many, nodes-many, declared-put, last-row, entry-room}
+use Rattle.sheet.proofs.Recording.{appended-records}
 use Rattle.sheet.proofs.Forming.{formed-after}
 
 pub chained-for : (S S′ : List ScopeRow) (D D′ : List DeclarationRow) (ss ss′ : List Scope) → S′ ≡ S → D′ ≡ D → ss′ ≡ ss → Chained S D ss → Chained S′ D′ ss′
@@ -66,6 +67,12 @@ chained-for S S′ D D′ ss ss′ e f g c =
 linked-same : (xs : List DeclarationRow) (k n : ℕ) → map declarationOf (set xs k (followedBy n (getD xs k noDeclaration))) ≡ map declarationOf xs
 linked-same xs k n =
     map-set declarationOf xs k (followedBy n (getD xs k noDeclaration)) ∙ sym (map-set declarationOf xs k (getD xs k noDeclaration)) ∙ ap (λ l. map declarationOf l) (set-getD xs k noDeclaration)
+
+unused-from : (s : Status) → not (isUnused s) ≡ false → s ≡ Unused
+unused-from Unused h = refl
+unused-from Stood h = absurd (true≢false h)
+unused-from Joined h = absurd (true≢false h)
+unused-from Flattened h = absurd (true≢false h)
 
 module _ (m : Memory) (σ : State) (h : Holds m σ) where
   -- the tree among Scopes that may stand otherwise
@@ -278,3 +285,139 @@ module _ (m : Memory) (σ : State) (h : Holds m σ) where
       go true e = first-holds k d r w (eqb-true (firstDeclared m) 4294967295 e)
       go false e = next-holds k d r w (eqb-false (firstDeclared m) 4294967295 e)
   part-holds (part.Reassignment i) r w = reassignment-holds i r w
+
+  -- a new node x, whose row is in ns
+  module _ (made : Record) (x : Node) (ns : Stored NodeRow) (p : NodePut (m .nodes) (m .innermost) made ns) (is : entryOf made ≡ Some (entry.Node x)) (room : Room (m .nodes)) where
+    many-is : length (items (m .nodes)) ≡ m .nodes .count
+    many-is = items-many (m .nodes) (h .counts .nodes)
+
+    -- the new node's number, by the rows that are put and by the sheet
+    node-number : length (items (m .nodes)) ≡ length (σ .rows .nodes)
+    node-number = many-is ∙ sym (nodes-many m σ h)
+
+    node-is : nodeOf made ≡ x
+    node-is = ap nodeBy is
+
+    node-within : within ns
+    node-within = omega (arith, p .count, p .long, room .left)
+
+    node-rows : nodesOf (items ns) ≡ nodesOf (items (m .nodes)) ++ x ∷ []
+    node-rows = ap nodesOf (p .rows) ∙ appended-nodes (items (m .nodes)) (m .innermost) made ∙ ap (λ y. nodesOf (items (m .nodes)) ++ y ∷ []) node-is
+
+    all-rows : rowsOf (withNodes m ns) ≡ rowsAfter (σ .rows) (entry.Node x)
+    all-rows = ap (λ xs. step.withNodes (rowsOf m) xs) node-rows ∙ ap (λ v. rowsAfter v (entry.Node x)) (h .rows)
+
+    node-records : recordsListed (items ns)
+    node-records = subst (λ (rs : List NodeRow). recordsListed rs) (sym (p .rows)) (appended-records (items (m .nodes)) (m .innermost) made (h .records) (ap isListed is))
+
+    few-nodes : length (items (m .nodes)) < 1024
+    few-nodes = omega (arith, many-is, room .few)
+
+    planted-for : (ss ss′ : List Status) (at at′ : ℕ) (o : ℕ) → at′ ≡ at → ss′ ≡ ss
+      → Planted (appended (items (m .nodes)) (m .innermost) made) ss at (grow (σ .opened) (length (items (m .nodes))) x (σ .tree)) o
+      → Planted (items ns) ss′ at′ (grow (σ .opened) (length (σ .rows .nodes)) x (σ .tree)) o
+    planted-for ss ss′ at at′ o e f q =
+        subst (λ (rs : List NodeRow). Planted rs ss′ at′ (grow (σ .opened) (length (σ .rows .nodes)) x (σ .tree)) o) (sym (p .rows))
+        (subst (λ (n : ℕ). Planted (appended (items (m .nodes)) (m .innermost) made) ss′ at′ (grow (σ .opened) n x (σ .tree)) o) node-number
+        (subst (λ (y : List Status). Planted (appended (items (m .nodes)) (m .innermost) made) y at′ (grow (σ .opened) (length (items (m .nodes))) x (σ .tree)) o) (sym f)
+        (subst (λ (n : ℕ). Planted (appended (items (m .nodes)) (m .innermost) made) ss n (grow (σ .opened) (length (items (m .nodes))) x (σ .tree)) o) (sym e) q)))
+
+    -- the sheet with the new node, where the Scopes are ss and o nodes are open
+    abbrev grown : List Scope → ℕ → State
+    grown ss o = record { rows = rowsAfter (σ .rows) (entry.Node x); scopes = ss; tree = grow (σ .opened) (length (σ .rows .nodes)) x (σ .tree); opened = o }
+
+    -- an Add's node is closed at once
+    add-holds : canHold (topOf σ) x ≡ true → isAdd x ≡ true → WellFormed (grown (σ .scopes) (σ .opened)) → Holds (withNodes m ns) (grown (σ .scopes) (σ .opened))
+    add-holds can add w =
+        record {
+          counts = let c = h .counts in let n = node-within in search needs;
+          rows = all-rows;
+          chained = h .chained;
+          records = node-records;
+          planted = planted-for (statuses (σ .scopes)) _ (m .innermost) _ (σ .opened) refl refl
+            (planted-add (items (m .nodes)) (statuses (σ .scopes)) (m .innermost) (σ .tree) (σ .opened) (h .planted) made x few-nodes node-is can add);
+          formed = w;
+        }
+
+    -- a node that Open made of no Scope is the innermost then
+    open-holds : canHold (topOf σ) x ≡ true → isAdd x ≡ false → isScope x ≡ false → σ .opened < 63 → WellFormed (grown (σ .scopes) (σ .opened + 1))
+      → Holds (withInnermost (withNodes m ns) (m .nodes .count)) (grown (σ .scopes) (σ .opened + 1))
+    open-holds can other plain few w =
+        record {
+          counts = let c = h .counts in let n = node-within in search needs;
+          rows = all-rows;
+          chained = h .chained;
+          records = node-records;
+          planted = planted-for (statuses (σ .scopes)) _ (length (items (m .nodes))) _ (σ .opened + 1) (sym many-is) refl
+            (planted-open (items (m .nodes)) (statuses (σ .scopes)) (m .innermost) (σ .tree) (σ .opened) (h .planted) made x few-nodes node-is can other plain few);
+          formed = w;
+        }
+
+    -- so is a Scope's node, and the Scope stands
+    stands-holds : (k : ℕ) → x ≡ node.Scope k → canHold (topOf σ) x ≡ true → k < m .scopes .count → getD (statuses (σ .scopes)) k Unused ≡ Unused → σ .opened < 63
+      → WellFormed (grown (altered (σ .scopes) k stood) (σ .opened + 1))
+      → Holds (withInnermost (withScopes (withNodes m ns) (changeScope (m .scopes) k standing)) (m .nodes .count)) (grown (altered (σ .scopes) k stood) (σ .opened + 1))
+    stands-holds k e can low unused few w =
+        let S = items (m .scopes) in
+        let D = items (m .declarations) in
+        let q : Planted (appended (items (m .nodes)) (m .innermost) made) (set (statuses (σ .scopes)) k Stood) (length (items (m .nodes))) (grow (σ .opened) (length (items (m .nodes))) (node.Scope k) (σ .tree)) (σ .opened + 1) =
+              planted-scope (items (m .nodes)) (statuses (σ .scopes)) (m .innermost) (σ .tree) (σ .opened) (h .planted) made k few-nodes (node-is ∙ e) (ap (λ y. canHold (topOf σ) y) (sym e) ∙ can)
+                (omega (arith, scopes-many m σ h)) unused few in
+        record {
+          counts =
+            let c = h .counts in
+            let n = node-within in
+            let y = changed-within (m .scopes) (standing (getD (m .scopes .rows) k noScope)) k (c .scopes) in
+            search needs;
+          rows = all-rows;
+          chained = chained-for (set S k (standing (getD S k noScope))) _ D D (altered (σ .scopes) k stood) _ (changed-scopes k standing low) refl refl
+            (chained-changed S D (σ .scopes) (h .chained) k (omega (arith, items-many (m .scopes) (h .counts .scopes))) standing stood (λ r. refl) (λ s. refl) (λ s. refl)
+              (λ T r s a. record { start-is = a .start-is; end-is = a .end-is; status-is = refl; status-small = omega arith; reassigns-is = a .reassigns-is; begin-is = a .begin-is; declares = a .declares; merged = a .merged }));
+          records = node-records;
+          planted = planted-for (set (statuses (σ .scopes)) k Stood) _ (length (items (m .nodes))) _ (σ .opened + 1) (sym many-is)
+            (map-set (λ s. s .status) (σ .scopes) k (stood (getD (σ .scopes) k blank)))
+            (subst (λ (y : Node). Planted (appended (items (m .nodes)) (m .innermost) made) (set (statuses (σ .scopes)) k Stood) (length (items (m .nodes))) (grow (σ .opened) (length (items (m .nodes))) y (σ .tree)) (σ .opened + 1)) (sym e) q);
+          formed = w;
+        }
+
+  node-holds : (made : Record) (x : Node) (ns : Stored NodeRow) → NodePut (m .nodes) (m .innermost) made ns → entryOf made ≡ Some (entry.Node x) → NodeRoom m x
+    → Accepted (σ .rows) (statuses (σ .scopes)) (topOf σ) (σ .opened) (entry.Node x) → WellFormed (after σ (entry.Node x)) → Holds (nodeIn m ns x) (after σ (entry.Node x))
+  node-holds made x ns p is r a w = go x p is r (not-false (canHold (topOf σ) x) (a .placed-is)) a w
+    where
+      go : (x : Node) → NodePut (m .nodes) (m .innermost) made ns → entryOf made ≡ Some (entry.Node x) → NodeRoom m x → canHold (topOf σ) x ≡ true
+        → Accepted (σ .rows) (statuses (σ .scopes)) (topOf σ) (σ .opened) (entry.Node x) → WellFormed (after σ (entry.Node x)) → Holds (nodeIn m ns x) (after σ (entry.Node x))
+      go node.Body p is r can a w = open-holds made node.Body ns p is (r .child .room) can refl refl (leb-false 63 (σ .opened) (a .crowded-is)) w
+      go (node.Add o v t) p is r can a w = add-holds made (node.Add o v t) ns p is (r .child .room) can refl w
+      go (node.Terminal k o v) p is r can a w = open-holds made (node.Terminal k o v) ns p is (r .child .room) can refl refl (leb-false 63 (σ .opened) (a .crowded-is)) w
+      go node.Arm p is r can a w = open-holds made node.Arm ns p is (r .child .room) can refl refl (leb-false 63 (σ .opened) (a .crowded-is)) w
+      go (node.Scope k) p is r can a w =
+          stands-holds made (node.Scope k) ns p is (r .child .room) k refl can (r .opens .put) (unused-from (getD (statuses (σ .scopes)) k Unused) (a .used-is)) (leb-false 63 (σ .opened) (a .crowded-is)) w
+      go (node.Pruned k) p is r can a w = open-holds made (node.Pruned k) ns p is (r .child .room) can refl refl (leb-false 63 (σ .opened) (a .crowded-is)) w
+
+  close-holds : eqb (σ .opened) 0 ≡ false → WellFormed (after σ entry.Close) → Holds (closedIn m) (after σ entry.Close)
+  close-holds some w =
+      let N = items (m .nodes) in
+      let low : m .innermost < m .nodes .count = omega (arith, innermost-within N (statuses (σ .scopes)) (m .innermost) (σ .tree) (σ .opened) (h .planted), items-many (m .nodes) (h .counts .nodes)) in
+      let ne : m .innermost ≢ 0 = λ e. eqb-false (σ .opened) 0 some (only-body N (statuses (σ .scopes)) (m .innermost) (σ .tree) (σ .opened) (h .planted) e) in
+      record {
+        counts = let c = h .counts in search needs;
+        rows = h .rows;
+        chained = h .chained;
+        records = h .records;
+        planted = subst (λ (r : NodeRow). Planted N (statuses (σ .scopes)) (r .parent) (σ .tree) (σ .opened - 1)) (getD-take (m .nodes .count) (m .nodes .rows) (m .innermost) noNode low)
+          (planted-close N (statuses (σ .scopes)) (m .innermost) (σ .tree) (σ .opened) (h .planted) ne);
+        formed = w;
+      }
+
+  wrote-from : (made : Record) (e : Entry) (m′ : Memory) → entryOf made ≡ Some e → EntryRoom m e → Accepted (σ .rows) (statuses (σ .scopes)) (topOf σ) (σ .opened) e → WellFormed (after σ e)
+    → Wrote m made e m′ → Holds m′ (after σ e)
+  wrote-from made (entry.Put p) m′ is r a w t = subst (λ (y : Memory). Holds y (after σ (entry.Put p))) (sym t) (put-holds p r w)
+  wrote-from made (entry.Part p) m′ is r a w t = subst (λ (y : Memory). Holds y (after σ (entry.Part p))) (sym t) (part-holds p r w)
+  wrote-from made (entry.Value v) m′ is r a w t = subst (λ (y : Memory). Holds y (after σ (entry.Value v))) (sym t) (value-holds v r w)
+  wrote-from made (entry.Node x) m′ is r a w t = subst (λ (y : Memory). Holds y (after σ (entry.Node x))) (sym (t .is)) (node-holds made x (m′ .nodes) (t .put) is r a w)
+  wrote-from made entry.Close m′ is r a w t = subst (λ (y : Memory). Holds y (after σ entry.Close)) (sym t) (close-holds (a .placed-is) w)
+  wrote-from made entry.List m′ is r a w t = subst (λ (y : Memory). Holds y (after σ entry.List)) (sym t) h
+
+  pub wrote-holds : (made : Record) (e : Entry) (m′ : Memory) → entryOf made ≡ Some e → refusedOf σ e ≡ None → EntryRoom m e → Wrote m made e m′ → Holds m′ (after σ e)
+  wrote-holds made e m′ is ok r t =
+      wrote-from made e m′ is r (accepted (σ .rows) (statuses (σ .scopes)) (topOf σ) (σ .opened) e ok) (formed-after σ made e (h .formed) is ok) t
