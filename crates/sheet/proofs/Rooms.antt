@@ -6,6 +6,7 @@ use Prim.Native.Nat.{ℕ, _-_, _<_, _≤_}
 use native.Mathlib.Omega.{arith}
 use lib.Dec.{leb, ltb}
 use lib.ListN.{length, getD, length-map}
+use Rattle.std.specs.declared.option.Option.the-variants.{None}
 use Rattle.std.proofs.shelf.Lists.{getD-take}
 use Rattle.std.proofs.shelf.Tests.{and-parts, leb-true, leb-false, ltb-true}
 use Rattle.screen.specs.declared.entry.Put.{Put}
@@ -19,7 +20,7 @@ use Rattle.screen.specs.declared.entry.Entry.the-variants as entry
 use Rattle.screen.specs.Lists.{every, gathered}
 use Rattle.screen.specs.State.{State}
 use Rattle.screen.specs.Named.{named, partNamed, nodeNamed}
-use Rattle.screen.specs.Refused.{statuses, putFull, partFull, full, topOf}
+use Rattle.screen.specs.Refused.{statuses, putFull, partFull, full, topOf, refusedOf}
 use Rattle.sheet.specs.declared.rows.ScopeRow.{ScopeRow}
 use Rattle.sheet.specs.declared.rows.DeclarationRow.{DeclarationRow}
 use Rattle.sheet.specs.Tables.{Stored, Memory, items, within}
@@ -33,7 +34,7 @@ use Rattle.sheet.specs.Room.{Room, PutRoom, LastRoom, DeclarationRoom, PartRoo
 use Rattle.sheet.specs.Kept.{Long}
 use Rattle.sheet.proofs.Storing.{items-many}
 use Rattle.sheet.proofs.Climbing.{innermost-within, innermost-last}
-use Rattle.sheet.proofs.Accepting.{Accepted}
+use Rattle.sheet.proofs.Accepting.{Accepted, accepted}
 use Rattle.sheet.proofs.Holding.{held-many}
 use Rattle.sheet.proofs.Declaring.{first-within}
 
@@ -116,11 +117,14 @@ module _ (m : Memory) (σ : State) (h : Holds m σ) where
           last = λ ne. omega (arith, innermost-last (items (m .nodes)) (statuses (σ .scopes)) (m .innermost) (σ .tree) (σ .opened) (h .planted) ne);
         }
 
-    pub entry-room : (top : Node) (o : ℕ) (e : Entry) → Accepted (σ .rows) (statuses (σ .scopes)) top o e → EntryRoom m e
-    entry-room top o (entry.Put p) a = put-room p (a .room-is)
-    entry-room top o (entry.Part p) a = part-room p (a .named-is) (a .room-is)
-    entry-room top o (entry.Value v) a = room-from (m .values) 1024 _ (sym (ap (λ w. length (w .values)) (h .rows)) ∙ items-many (m .values) (h .counts .values)) (a .room-is) (long .values) (omega arith)
-    entry-room top o (entry.Node x) a = record { child = child-room (a .room-is); opens = open-room x (a .named-is) }
-    entry-room top o entry.Close a =
+    room-for : (top : Node) (o : ℕ) (e : Entry) → Accepted (σ .rows) (statuses (σ .scopes)) top o e → EntryRoom m e
+    room-for top o (entry.Put p) a = put-room p (a .room-is)
+    room-for top o (entry.Part p) a = part-room p (a .named-is) (a .room-is)
+    room-for top o (entry.Value v) a = room-from (m .values) 1024 _ (sym (ap (λ w. length (w .values)) (h .rows)) ∙ items-many (m .values) (h .counts .values)) (a .room-is) (long .values) (omega arith)
+    room-for top o (entry.Node x) a = record { child = child-room (a .room-is); opens = open-room x (a .named-is) }
+    room-for top o entry.Close a =
         omega (arith, innermost-within (items (m .nodes)) (statuses (σ .scopes)) (m .innermost) (σ .tree) (σ .opened) (h .planted), items-many (m .nodes) (h .counts .nodes), h .counts .nodes)
-    entry-room top o entry.List a = tt
+    room-for top o entry.List a = tt
+
+    pub entry-room : (e : Entry) → refusedOf σ e ≡ None → EntryRoom m e
+    entry-room e ok = room-for (topOf σ) (σ .opened) e (accepted (σ .rows) (statuses (σ .scopes)) (topOf σ) (σ .opened) e ok)

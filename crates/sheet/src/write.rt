@@ -3,7 +3,14 @@
 ghost use mathlib.Core.Path.{_≡_};
 ghost use Prim.Native.Nat.{_<_};
 ghost use lib.ListN.{length};
+ghost use Rattle.std.specs.declared.option.Option.the-variants.{Some, None};
+ghost use Rattle.screen.specs.Entries.{entryOf};
+ghost use Rattle.screen.specs.State.{State};
+ghost use Rattle.screen.specs.Refused.{refusedOf};
+ghost use Rattle.screen.specs.Step.{after};
 ghost use Rattle.sheet.specs.Tables.{memory};
+ghost use Rattle.sheet.specs.Holds.{Holds};
+ghost use Rattle.sheet.specs.Kept.{Long, RestKept};
 ghost use Rattle.sheet.specs.Ends.{endOf};
 ghost use Rattle.sheet.specs.Written.{putIn, partIn, valueIn, withScopes, withNodes, changeScope, declaredFirst, declaredNext, firstDeclared, lastScope, startingAt, standing, reassigning, NodePut, NodeIn, closedIn, Wrote};
 ghost use Rattle.sheet.specs.Room.{PutRoom, Room, LastRoom, DeclarationRoom, PartRoom, ScopeRoom, ChildRoom, NodeRoom, EntryRoom};
@@ -175,5 +182,15 @@ impl Sheet<'_> {
             Entry::Close => self.close(),
             Entry::List => {}
         }
+    }
+
+    /// Writes an accepted entry; `made` is its record.
+    pub(crate) fn write(&mut self, made: Record, entry: Entry)
+        requires ready { ⌜ ((σ : State) × Holds (memory (now self)) σ × (entryOf made ≡ Some entry) × (refusedOf σ entry ≡ None)) ⌝ }
+        requires long { ⌜ Long (memory (now self)) ⌝ }
+        ensures holds { λ _. ⌜ ((σ : State) → Holds (memory (now (self .entry))) σ → Holds (memory (now (self .exit))) (after σ entry)) ⌝ }
+        ensures rest { λ _. ⌜ RestKept (memory (now (self .entry))) (memory (now (self .exit))) ⌝ }
+    {
+        self.put_entry(made, entry);
     }
 }
