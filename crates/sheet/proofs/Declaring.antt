@@ -1,6 +1,6 @@
 -- The Scopes' lists with a new declaration at the end of one.
 use mathlib.Core.Path.{_≡_, refl, sym, ap, subst, _∙_}
-use mathlib.Core.Bool.{Bool, true, false, cond, not, _&&_, _||_}
+use mathlib.Core.Bool.{true, false, not}
 use mathlib.Core.Logic.{_≢_, _⊎_, inl, inr}
 use mathlib.Core.List.{List, [], _∷_, _++_}
 use Prim.Native.Nat.{ℕ, zero, suc, _+_, _<_, _≤_}
@@ -8,22 +8,23 @@ use native.Mathlib.Omega.{arith}
 use lib.Dec.{eqb, ltb}
 use lib.ListN.{length, getD, set, length-set}
 use Rattle.std.proofs.shelf.Lists.{getD-append-left, getD-push, length-push, getD-set-same, getD-set-other}
-use Rattle.std.proofs.shelf.Tests.{cases-eq, cases-lt, cases-bool, and-parts, or-left, or-right, not-true, both-ways, ltb-true, lt-ltb, le-ltb, cond-true, cond-false}
+use Rattle.std.proofs.shelf.Tests.{cases-eq, cases-bool, and-parts, or-left, or-right, not-true, both-ways, ltb-true, lt-ltb, le-ltb, cond-true, cond-false}
 use Rattle.screen.specs.Lists.{every, member, distinct, gathered}
 use Rattle.screen.specs.State.{Scope}
 use Rattle.screen.specs.Step.{altered, declaring}
 use Rattle.screen.proofs.Members.{member-here, member-append}
 use Rattle.sheet.specs.declared.rows.ScopeRow.{ScopeRow}
 use Rattle.sheet.specs.declared.rows.DeclarationRow.{DeclarationRow}
-use Rattle.sheet.specs.Chains.{noScope, noDeclaration, nextDeclaration, nextMerged, Chain, ScopeHeld, ScopesHeld, Chained}
+use Rattle.sheet.specs.Chains.{noScope, noDeclaration, nextDeclaration, nextMerged, Chain, ScopeHeld, Chained}
 use Rattle.sheet.specs.Written.{startingAt, followedBy, newDeclaration}
 use Rattle.sheet.specs.Ends.{endFrom, endOf}
 use Rattle.sheet.proofs.Marking.{member-other}
+use Rattle.sheet.proofs.Gathering.{told}
 use Rattle.sheet.proofs.Parting.{every-member, every-at, distinct-at, one-part, in-gathered, in-none, few-below}
-use Rattle.sheet.proofs.Holding.{blank, held-many, held-at, held-from, held-for, held-moved, set-link, altered-member}
+use Rattle.sheet.proofs.Holding.{blank, held-at, held-from, held-for, held-moved, set-link, altered-member}
 
 -- the last number of a list that begins with k
-abbrev pub lastIn : ℕ → List ℕ → ℕ
+abbrev lastIn : ℕ → List ℕ → ℕ
 lastIn k [] = k
 lastIn k (j ∷ js) = lastIn j js
 
@@ -37,7 +38,7 @@ last-member k [] = member-here k k [] refl
 last-member k (j ∷ js) = or-right (eqb k (lastIn j js)) (member (lastIn j js) (j ∷ js)) (last-member j js)
 
 -- a walk by links comes to the last number
-pub end-is : (D : List DeclarationRow) (fuel k : ℕ) (ks : List ℕ) → length D ≤ 1024 → Chain (nextDeclaration D) (nextDeclaration D k) ks → every (λ n. ltb n (length D)) ks ≡ true → length ks ≤ fuel → endFrom fuel D k ≡ lastIn k ks
+end-is : (D : List DeclarationRow) (fuel k : ℕ) (ks : List ℕ) → length D ≤ 1024 → Chain (nextDeclaration D) (nextDeclaration D k) ks → every (λ n. ltb n (length D)) ks ≡ true → length ks ≤ fuel → endFrom fuel D k ≡ lastIn k ks
 end-is D zero k [] few c b l = refl
 end-is D (suc fuel) k [] few c b l = cond-false (ltb (nextDeclaration D k) (length D)) _ k (le-ltb (nextDeclaration D k) (length D) (omega arith))
 end-is D zero k (j ∷ js) few c b l = absurd (omega arith)
@@ -67,7 +68,7 @@ module _ (S : List ScopeRow) (D : List DeclarationRow) (ss : List Scope) (chaine
   (once : distinct (gathered (λ k. k .declares) ss) ≡ true) (put : every (λ n. ltb n (length D)) (gathered (λ k. k .declares) ss) ≡ true) (few : length D ≤ 1024) where
 
   many : length ss ≡ length S
-  many = held-many S D S ss (chained .held)
+  many = told S D S ss (chained .held) .count
 
   declared-low : (i n : ℕ) → i < length ss → member n (getD ss i blank .declares) ≡ true → n < length D
   declared-low i n h m = ltb-true n (length D) (every-member (λ n. ltb n (length D)) (gathered (λ k. k .declares) ss) n put (in-gathered (λ k. k .declares) blank ss i n h m))
@@ -121,7 +122,7 @@ module _ (S : List ScopeRow) (D : List DeclarationRow) (ss : List Scope) (chaine
                 (in-none (λ k. k .merged) blank ss (altered ss l (declaring (length D))) n (altered-member ss l (declaring (length D)) (λ k. k .merged) n (λ m. m)) out);
         }
 
-  -- the Scope's Scope row and the numbers that it declares
+  -- Scope l's row, and the numbers that it declares
   row-here : ScopeHeld S D (getD S l noScope) (getD ss l blank)
   row-here = held-at S D S ss (chained .held) l within
 
@@ -183,7 +184,7 @@ module _ (S : List ScopeRow) (D : List DeclarationRow) (ss : List Scope) (chaine
           go [] c b d = absurd (some c)
           go (k ∷ ks) c b d = ap (λ i. member i (k ∷ ks)) (end-last k ks c b d) ∙ last-member k ks
 
-      pub end-within : endOf D (getD S l noScope .first) < length D
+      end-within : endOf D (getD S l noScope .first) < length D
       end-within = declared-low l (endOf D (getD S l noScope .first)) (omega (arith, many)) end-in
 
       linked-old : (m : ℕ) → m < length D → m ≢ endOf D (getD S l noScope .first) → nextDeclaration (linked D key declared (getD S l noScope .first)) m ≡ nextDeclaration D m

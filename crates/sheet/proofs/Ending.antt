@@ -1,7 +1,7 @@
 -- The steps along a list of declarations, and where it ends.
-use mathlib.Core.Path.{_≡_, refl, sym, ap, subst, _∙_}
-use mathlib.Core.Bool.{Bool, true, false, cond}
-use mathlib.Core.List.{List, [], _∷_}
+use mathlib.Core.Path.{_≡_, ap, _∙_}
+use mathlib.Core.Bool.{cond}
+use mathlib.Core.List.{List}
 use Prim.Native.Nat.{ℕ, zero, suc, _+_, _-_, _<_, _≤_}
 use native.Mathlib.Omega.{arith}
 use lib.Dec.{ltb}
@@ -9,7 +9,7 @@ use lib.ListN.{length}
 use Rattle.std.proofs.shelf.Tests.{cond-true, cond-false, cond-both, lt-ltb, le-ltb, ltb-true}
 use Rattle.sheet.specs.declared.rows.DeclarationRow.{DeclarationRow}
 use Rattle.sheet.specs.Chains.{nextDeclaration}
-use Rattle.sheet.specs.Ends.{endFrom, endOf}
+use Rattle.sheet.specs.Ends.{endFrom}
 
 -- with steps left, a link to a row is followed, and any other is the end
 pub end-step : (n i : ℕ) (rows : List DeclarationRow) (a : ℕ) → i < n → endFrom (n - i) rows a ≡ cond (ltb (nextDeclaration rows a) (length rows)) (endFrom (n - (i + 1)) rows (nextDeclaration rows a)) a

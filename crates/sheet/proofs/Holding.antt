@@ -1,7 +1,7 @@
 -- The Scopes in their rows by number, with one Scope more, or with one row changed.
 use mathlib.Core.Path.{_≡_, refl, sym, ap, subst, _∙_}
-use mathlib.Core.Bool.{Bool, true, false, not, _||_}
-use mathlib.Core.Logic.{_≢_, _⊎_, inl, inr}
+use mathlib.Core.Bool.{true, false}
+use mathlib.Core.Logic.{_⊎_, inl, inr}
 use mathlib.Core.List.{List, [], _∷_, _++_}
 use Prim.Native.Nat.{ℕ, zero, suc, _+_, _<_, _≤_}
 use native.Mathlib.Omega.{arith}
@@ -17,6 +17,7 @@ use Rattle.sheet.specs.declared.rows.ScopeRow.{ScopeRow}
 use Rattle.sheet.specs.declared.rows.DeclarationRow.{DeclarationRow}
 use Rattle.sheet.specs.Chains.{noScope, nextDeclaration, nextMerged, Chain, ScopeHeld, ScopesHeld, Chained}
 use Rattle.sheet.specs.Written.{newScope}
+use Rattle.sheet.proofs.Gathering.{told}
 use Rattle.sheet.proofs.Parting.{every-member, in-gathered, in-none}
 
 -- the Scope that stands for what is not there
@@ -24,12 +25,6 @@ abbrev pub blank : Scope
 blank = fresh 0 0 0
 
 module _ (S : List ScopeRow) (D : List DeclarationRow) where
-  pub held-many : (rs : List ScopeRow) (ss : List Scope) → ScopesHeld S D rs ss → length ss ≡ length rs
-  held-many [] [] h = refl
-  held-many [] (k ∷ ks) h = absurd h
-  held-many (r ∷ rs) [] h = absurd h
-  held-many (r ∷ rs) (k ∷ ks) h = ap suc (held-many rs ks (h .1))
-
   pub held-at : (rs : List ScopeRow) (ss : List Scope) → ScopesHeld S D rs ss → (i : ℕ) → i < length rs → ScopeHeld S D (getD rs i noScope) (getD ss i blank)
   held-at [] ss h i l = absurd (omega arith)
   held-at (r ∷ rs) [] h i l = absurd h
@@ -46,7 +41,7 @@ module _ (S : List ScopeRow) (D : List DeclarationRow) where
   held-for r r′ k k′ e f h = subst (λ (x : ScopeRow). ScopeHeld S D x k′) (sym e) (subst (λ (x : Scope). ScopeHeld S D r x) (sym f) h)
 
 -- links that are the same along a list
-pub chain-like : (next next′ : ℕ → ℕ) (a : ℕ) (ks : List ℕ) → ((k : ℕ) → member k ks ≡ true → next′ k ≡ next k) → Chain next a ks → Chain next′ a ks
+chain-like : (next next′ : ℕ → ℕ) (a : ℕ) (ks : List ℕ) → ((k : ℕ) → member k ks ≡ true → next′ k ≡ next k) → Chain next a ks → Chain next′ a ks
 chain-like next next′ a [] e c = c
 chain-like next next′ a (k ∷ ks) e c =
     (c .0, subst (λ (x : ℕ). Chain next′ x ks) (sym (e k (member-here k k ks refl))) (chain-like next next′ (next k) ks (λ j h. e j (or-right (eqb k j) (member j ks) h)) (c .1)))
@@ -70,7 +65,7 @@ held-moved S S′ D D′ r k d m h =
 -- a Scope more, whose merged lists lead to Scopes that are put
 module _ (S : List ScopeRow) (D : List DeclarationRow) (ss : List Scope) (chained : Chained S D ss) (put : every (λ n. ltb n (length ss)) (gathered (λ k. k .merged) ss) ≡ true) (a z b : ℕ) where
   new-many : length ss ≡ length S
-  new-many = held-many S D S ss (chained .held)
+  new-many = told S D S ss (chained .held) .count
 
   new-link : (n : ℕ) → n < length S → nextMerged (S ++ newScope a z b ∷ []) n ≡ nextMerged S n
   new-link n l = ap (λ r. r .next) (getD-append-left S (newScope a z b ∷ []) noScope n l)
@@ -135,7 +130,7 @@ module _ (S : List ScopeRow) (D : List DeclarationRow) (ss : List Scope) (chaine
   changed-link n = set-link S k (f (getD S k noScope)) n (link (getD S k noScope))
 
   changed-many : length ss ≡ length S
-  changed-many = held-many S D S ss (chained .held)
+  changed-many = told S D S ss (chained .held) .count
 
   changed-held : (i : ℕ) → i < length S → (i ≡ k) ⊎ (i ≡ k → ⊥) → ScopeHeld (set S k (f (getD S k noScope))) D (getD (set S k (f (getD S k noScope))) i noScope) (getD (altered ss k g) i blank)
   changed-held i l (inl e) =

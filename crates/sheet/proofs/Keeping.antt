@@ -1,8 +1,8 @@
 -- What a write keeps of the memory.
 use borrow.Author.Needs.{needs}
-use mathlib.Core.Path.{_≡_, refl, sym, ap, subst, _∙_}
+use mathlib.Core.Path.{_≡_, refl, sym, subst, _∙_}
 use mathlib.Core.Bool.{Bool, true, false, cond}
-use Prim.Native.Nat.{ℕ, _+_, _-_, _<_}
+use Prim.Native.Nat.{ℕ, _-_, _<_}
 use native.Mathlib.Omega.{arith}
 use lib.Dec.{eqb}
 use lib.ListN.{length, drop, getD}
@@ -17,11 +17,11 @@ use Rattle.screen.specs.declared.node.Node.the-variants as node
 use Rattle.screen.specs.declared.entry.Entry.{Entry}
 use Rattle.screen.specs.declared.entry.Entry.the-variants as entry
 use Rattle.sheet.specs.declared.rows.NodeRow.{NodeRow}
-use Rattle.sheet.specs.Tables.{Stored, Memory, items, within}
+use Rattle.sheet.specs.Tables.{Stored, Memory, items}
 use Rattle.sheet.specs.Chains.{noScope, noDeclaration}
 use Rattle.sheet.specs.Ends.{endOf}
-use Rattle.sheet.specs.Room.{PartRoom, DeclarationRoom, LastRoom, ScopeRoom, OpenRoom, EntryRoom}
-use Rattle.sheet.specs.Written.{pushed, changed, putIn, partIn, declaredFirst, declaredNext, firstDeclared, lastScope, newDeclaration, followedBy, startingAt, reassigning, standing, valueIn, NodePut, nodeIn, Wrote}
+use Rattle.sheet.specs.Room.{PartRoom, DeclarationRoom, LastRoom, OpenRoom, EntryRoom}
+use Rattle.sheet.specs.Written.{pushed, changed, putIn, partIn, declaredFirst, declaredNext, firstDeclared, lastScope, newDeclaration, followedBy, startingAt, reassigning, standing, NodePut, nodeIn, Wrote}
 use Rattle.sheet.specs.Kept.{Rest, RestKept}
 use Rattle.sheet.proofs.Storing.{items-many, same-rest, pushed-rest, changed-rest}
 use Rattle.sheet.proofs.Ending.{end-low}

@@ -1,6 +1,6 @@
 -- The lists that make up a gathered one: where their numbers are, and that none is in two.
 use mathlib.Core.Path.{_≡_, refl, sym, ap, _∙_}
-use mathlib.Core.Bool.{Bool, true, false, not, _&&_, _||_}
+use mathlib.Core.Bool.{Bool, true, false, not}
 use mathlib.Core.Logic.{_⊎_, inl, inr}
 use mathlib.Core.List.{List, [], _∷_, _++_}
 use Prim.Native.Nat.{ℕ, zero, suc, _<_, _≤_}
@@ -27,7 +27,7 @@ every-member p (x ∷ ks) k e h =
     go (inr i) here rest = rest i
 
 -- no number of the first list is in the second
-pub distinct-parts : (xs ys : List ℕ) → distinct (xs ++ ys) ≡ true → (distinct xs ≡ true) × (distinct ys ≡ true) × ((k : ℕ) → member k xs ≡ true → member k ys ≡ false)
+distinct-parts : (xs ys : List ℕ) → distinct (xs ++ ys) ≡ true → (distinct xs ≡ true) × (distinct ys ≡ true) × ((k : ℕ) → member k xs ≡ true → member k ys ≡ false)
 distinct-parts [] ys d = (refl, d, λ k h. absurd (both-ways false refl h))
 distinct-parts (x ∷ xs) ys d =
     let a = and-parts (not (member x (xs ++ ys))) (distinct (xs ++ ys)) d in
@@ -48,12 +48,12 @@ module _ {A : Type 0} (f : A → List ℕ) (d : A) where
   in-gathered (s ∷ ss) (suc i) k l h = member-append k (f s) (gathered f ss) ∙ or-right (member k (f s)) (member k (gathered f ss)) (in-gathered ss i k (omega arith) h)
 
   -- the part that a number is in
-  pub record Place (ss : List A) (k : ℕ) : Type 0 where
-    pub at : ℕ
-    pub within : at < length ss
-    pub here : member k (f (getD ss at d)) ≡ true
+  record Place (ss : List A) (k : ℕ) : Type 0 where
+    at : ℕ
+    within : at < length ss
+    here : member k (f (getD ss at d)) ≡ true
 
-  pub place : (ss : List A) (k : ℕ) → member k (gathered f ss) ≡ true → Place ss k
+  place : (ss : List A) (k : ℕ) → member k (gathered f ss) ≡ true → Place ss k
   place [] k h = absurd (both-ways false refl h)
   place (s ∷ ss) k h = go (or-cases (member k (f s)) (member k (gathered f ss)) (sym (member-append k (f s) (gathered f ss)) ∙ h)) (λ e. place ss k e)
     where

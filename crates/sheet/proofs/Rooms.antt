@@ -1,6 +1,6 @@
 -- Tables that hold a sheet have room for what it does not refuse.
-use mathlib.Core.Path.{_≡_, refl, sym, ap, subst, _∙_}
-use mathlib.Core.Bool.{Bool, true, false, _&&_}
+use mathlib.Core.Path.{_≡_, sym, ap, subst, _∙_}
+use mathlib.Core.Bool.{true, false}
 use mathlib.Core.List.{List}
 use Prim.Native.Nat.{ℕ, _-_, _<_, _≤_}
 use native.Mathlib.Omega.{arith}
@@ -8,7 +8,7 @@ use lib.Dec.{leb, ltb}
 use lib.ListN.{length, getD, length-map}
 use Rattle.std.specs.declared.option.Option.the-variants.{None}
 use Rattle.std.proofs.shelf.Lists.{getD-take}
-use Rattle.std.proofs.shelf.Tests.{and-parts, leb-true, leb-false, ltb-true}
+use Rattle.std.proofs.shelf.Tests.{and-parts, leb-false, ltb-true}
 use Rattle.screen.specs.declared.entry.Put.{Put}
 use Rattle.screen.specs.declared.entry.Put.the-variants as put
 use Rattle.screen.specs.declared.entry.Part.{Part}
@@ -22,20 +22,17 @@ use Rattle.screen.specs.State.{State}
 use Rattle.screen.specs.Named.{named, partNamed, nodeNamed}
 use Rattle.screen.specs.Refused.{statuses, putFull, partFull, full, topOf, refusedOf}
 use Rattle.sheet.specs.declared.rows.ScopeRow.{ScopeRow}
-use Rattle.sheet.specs.declared.rows.DeclarationRow.{DeclarationRow}
 use Rattle.sheet.specs.Tables.{Stored, Memory, items, within}
 use Rattle.sheet.specs.Chains.{noScope}
-use Rattle.sheet.specs.Links.{row}
 use Rattle.sheet.specs.Holds.{Holds, declarationOf}
-use Rattle.sheet.specs.Planted.{nodesOf}
 use Rattle.screen.specs.Entries.{nodeOf}
-use Rattle.sheet.specs.Written.{lastScope, firstDeclared}
-use Rattle.sheet.specs.Room.{Room, PutRoom, LastRoom, DeclarationRoom, PartRoom, ChildRoom, OpenRoom, NodeRoom, EntryRoom}
+use Rattle.sheet.specs.Written.{lastScope}
+use Rattle.sheet.specs.Room.{Room, PutRoom, LastRoom, DeclarationRoom, PartRoom, ChildRoom, OpenRoom, EntryRoom}
 use Rattle.sheet.specs.Kept.{Long}
 use Rattle.sheet.proofs.Storing.{items-many}
 use Rattle.sheet.proofs.Climbing.{innermost-within, innermost-last}
 use Rattle.sheet.proofs.Accepting.{Accepted, accepted}
-use Rattle.sheet.proofs.Holding.{held-many}
+use Rattle.sheet.proofs.Gathering.{told}
 use Rattle.sheet.proofs.Declaring.{first-within}
 
 -- a table whose limit is not reached
@@ -46,7 +43,7 @@ module _ (m : Memory) (σ : State) (h : Holds m σ) where
   -- how many rows the tables have
   pub scopes-many : length (statuses (σ .scopes)) ≡ m .scopes .count
   scopes-many =
-      length-map (σ .scopes) (λ k. k .status) ∙ held-many (items (m .scopes)) (items (m .declarations)) (items (m .scopes)) (σ .scopes) (h .chained .held) ∙ items-many (m .scopes) (h .counts .scopes)
+      length-map (σ .scopes) (λ k. k .status) ∙ told (items (m .scopes)) (items (m .declarations)) (items (m .scopes)) (σ .scopes) (h .chained .held) .count ∙ items-many (m .scopes) (h .counts .scopes)
 
   pub declarations-many : length (σ .rows .declarations) ≡ m .declarations .count
   declarations-many = sym (ap (λ w. length (w .declarations)) (h .rows)) ∙ length-map (items (m .declarations)) declarationOf ∙ items-many (m .declarations) (h .counts .declarations)
@@ -62,9 +59,9 @@ module _ (m : Memory) (σ : State) (h : Holds m σ) where
   declared-put =
       subst (λ (n : ℕ). every (λ k. ltb k n) (gathered (λ k. k .declares) (σ .scopes)) ≡ true) (declarations-many ∙ sym (items-many (m .declarations) (h .counts .declarations))) (h .formed .scopes .declarations-put)
 
-  -- the row of the Scope put last
-  pub last-row : 0 < m .scopes .count → getD (items (m .scopes)) (lastScope m) noScope ≡ getD (m .scopes .rows) (lastScope m) noScope
-  last-row some = getD-take (m .scopes .count) (m .scopes .rows) (lastScope m) noScope (omega arith)
+  -- the row of a Scope that is put
+  pub row-put : (k : ℕ) → k < m .scopes .count → getD (items (m .scopes)) k noScope ≡ getD (m .scopes .rows) k noScope
+  row-put k l = getD-take (m .scopes .count) (m .scopes .rows) k noScope l
 
   module _ (long : Long m) where
     put-room : (p : Put) → putFull (σ .rows) (statuses (σ .scopes)) p ≡ false → PutRoom m p
@@ -83,7 +80,7 @@ module _ (m : Memory) (σ : State) (h : Holds m σ) where
         let D = items (m .declarations) in
         let S = items (m .scopes) in
         let room : Room (m .declarations) = room-from (m .declarations) 1024 _ declarations-many f (long .declarations) (omega arith) in
-        let is : getD S (lastScope m) noScope ≡ getD (m .scopes .rows) (lastScope m) noScope = last-row (last .some) in
+        let is : getD S (lastScope m) noScope ≡ getD (m .scopes .rows) (lastScope m) noScope = row-put (lastScope m) (omega (arith, last .some)) in
         let many : length D ≡ m .declarations .count = items-many (m .declarations) (h .counts .declarations) in
         let low : (getD S (lastScope m) noScope .first ≡ 4294967295 → ⊥) → getD S (lastScope m) noScope .first < length D =
               first-within S D (σ .scopes) (h .chained) (lastScope m) (omega (arith, last .some, items-many (m .scopes) (h .counts .scopes))) (h .formed .scopes .declared) declared-put (omega (arith, room .few)) in

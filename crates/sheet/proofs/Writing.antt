@@ -1,16 +1,16 @@
 -- The tables hold the sheet after an accepted entry.
 use borrow.Author.Needs.{needs}
 use mathlib.Core.Path.{_≡_, refl, sym, ap, subst, _∙_}
-use mathlib.Core.Bool.{Bool, true, false, cond, not, _&&_}
+use mathlib.Core.Bool.{Bool, true, false, cond, not}
 use mathlib.Core.Logic.{_≢_}
 use mathlib.Core.List.{List, [], _∷_, _++_, map}
-use Prim.Native.Nat.{ℕ, zero, suc, _+_, _-_, _<_, _≤_}
+use Prim.Native.Nat.{ℕ, _+_, _-_, _<_, _≤_}
 use native.Mathlib.Omega.{arith}
-use lib.Dec.{eqb, leb, ltb}
-use lib.ListN.{length, getD, set, take, length-set, length-map}
+use lib.Dec.{eqb}
+use lib.ListN.{length, getD, set, length-map}
 use Rattle.std.specs.declared.option.Option.the-variants.{Some, None}
-use Rattle.std.proofs.shelf.Lists.{getD-take, map-push, map-set, set-getD, length-push}
-use Rattle.std.proofs.shelf.Tests.{and-parts, and-from, eqb-true, eqb-false, leb-false, ltb-true, not-false, true≢false}
+use Rattle.std.proofs.shelf.Lists.{getD-take, map-push, map-set, set-getD}
+use Rattle.std.proofs.shelf.Tests.{eqb-true, eqb-false, leb-false, not-false, true≢false}
 use Rattle.block.specs.declared.record.Record.{Record}
 use Rattle.screen.specs.declared.entry.Put.{Put}
 use Rattle.screen.specs.declared.entry.Put.the-variants as put
@@ -24,9 +24,8 @@ use Rattle.screen.specs.declared.rows.ValueRow.{ValueRow}
 use Rattle.screen.specs.declared.entry.Entry.{Entry}
 use Rattle.screen.specs.declared.entry.Entry.the-variants as entry
 use Rattle.screen.specs.Entries.{entryOf, nodeOf, nodeBy}
-use Rattle.screen.specs.Forest.{Forest, isAdd, canHold}
+use Rattle.screen.specs.Forest.{isAdd, canHold}
 use Rattle.screen.specs.Open.{innermost, grow}
-use Rattle.screen.specs.Lists.{every, gathered}
 use Rattle.screen.specs.State.{State, Rows, Scope}
 use Rattle.screen.specs.Statuses.{isUnused}
 use Rattle.screen.specs.Standing.{Standing}
@@ -34,32 +33,30 @@ use Rattle.screen.specs.Refused.{statuses, topOf, refusedOf}
 use Rattle.screen.specs.WellFormed.{WellFormed, isListed}
 use Rattle.screen.specs.Step as step
 use Rattle.screen.specs.Step.{also, altered, alteredLast, declaring, reassigned, stood, rowsAfter, after}
-use Rattle.screen.proofs.Members.{every-append}
 use Rattle.sheet.specs.declared.rows.ScopeRow.{ScopeRow}
 use Rattle.sheet.specs.declared.rows.DeclarationRow.{DeclarationRow}
 use Rattle.sheet.specs.declared.rows.NodeRow.{NodeRow}
 use Rattle.sheet.specs.Tables.{Stored, Memory, items, within}
-use Rattle.sheet.specs.Chains.{noScope, noDeclaration, ScopeHeld, Chained}
-use Rattle.sheet.specs.Links.{row, noRecord, noNode}
+use Rattle.sheet.specs.Chains.{noScope, noDeclaration, Chained}
+use Rattle.sheet.specs.Links.{noNode}
 use Rattle.sheet.specs.Ends.{endOf}
-use Rattle.sheet.specs.Appended.{withEnds, withLast, withNext, attached, appended}
-use Rattle.sheet.specs.Appended as appending
-use Rattle.sheet.specs.Planted.{root, nodesOf, Planted}
+use Rattle.sheet.specs.Appended.{appended}
+use Rattle.sheet.specs.Planted.{nodesOf, Planted}
 use Rattle.sheet.specs.Holds.{declarationOf, rowsOf, Within, recordsListed, Holds}
 use Rattle.sheet.specs.Room.{PutRoom, LastRoom, DeclarationRoom, PartRoom, Room, EntryRoom, NodeRoom}
-use Rattle.sheet.specs.Written.{pushed, changed, putIn, newScope, partIn, newDeclaration, followedBy, startingAt, reassigning, standing, changeScope, changeDeclaration, lastScope, firstDeclared, declaredFirst, declaredNext, valueIn, withNodes, withScopes, withInnermost, NodePut, nodeIn, closedIn, Wrote}
+use Rattle.sheet.specs.Written.{pushed, putIn, newScope, partIn, newDeclaration, followedBy, startingAt, reassigning, standing, changeScope, changeDeclaration, lastScope, firstDeclared, declaredFirst, declaredNext, valueIn, withNodes, withScopes, withInnermost, NodePut, nodeIn, closedIn, Wrote}
 use Rattle.sheet.proofs.Storing.{items-many, pushed-items, pushed-within, changed-items, changed-within}
 use Rattle.sheet.proofs.Planting.{isScope, appended-nodes, planted-add, planted-open, planted-scope}
 use Rattle.sheet.proofs.Climbing.{innermost-within, only-body, planted-close}
-use Rattle.sheet.proofs.Accepting.{Accepted, accepted, same-refused}
-use Rattle.sheet.proofs.Holding.{blank, held-many, chained-new, chained-changed}
-use Rattle.sheet.proofs.Declaring.{linked, chained-first, chained-next, end-within}
+use Rattle.sheet.proofs.Accepting.{Accepted, accepted}
+use Rattle.sheet.proofs.Holding.{blank, chained-new, chained-changed}
+use Rattle.sheet.proofs.Declaring.{linked, chained-first, chained-next}
 use Rattle.sheet.proofs.Ending.{end-low}
-use Rattle.sheet.proofs.Rooms.{scopes-many, declarations-many, dependencies-many, nodes-many, declared-put, last-row, entry-room}
+use Rattle.sheet.proofs.Rooms.{scopes-many, declarations-many, dependencies-many, nodes-many, declared-put, row-put}
 use Rattle.sheet.proofs.Recording.{appended-records}
 use Rattle.sheet.proofs.Forming.{formed-after}
 
-pub chained-for : (S S′ : List ScopeRow) (D D′ : List DeclarationRow) (ss ss′ : List Scope) → S′ ≡ S → D′ ≡ D → ss′ ≡ ss → Chained S D ss → Chained S′ D′ ss′
+chained-for : (S S′ : List ScopeRow) (D D′ : List DeclarationRow) (ss ss′ : List Scope) → S′ ≡ S → D′ ≡ D → ss′ ≡ ss → Chained S D ss → Chained S′ D′ ss′
 chained-for S S′ D D′ ss ss′ e f g c =
     subst (λ (x : List ScopeRow). Chained x D′ ss′) (sym e) (subst (λ (x : List DeclarationRow). Chained S x ss′) (sym f) (subst (λ (x : List Scope). Chained S D x) (sym g) c))
 
@@ -100,71 +97,46 @@ module _ (m : Memory) (σ : State) (h : Holds m σ) where
         formed = w;
       }
 
+  -- rows that no list and no tree goes through
+  plain-holds : (m′ : Memory) (w : Rows) → Within m′ → rowsOf m′ ≡ w → m′ .scopes ≡ m .scopes → m′ .declarations ≡ m .declarations → m′ .nodes ≡ m .nodes → m′ .innermost ≡ m .innermost
+    → WellFormed (record { rows = w; scopes = σ .scopes; tree = σ .tree; opened = σ .opened }) → Holds m′ (record { rows = w; scopes = σ .scopes; tree = σ .tree; opened = σ .opened })
+  plain-holds m′ w c is s d n i f =
+      record {
+        counts = c;
+        rows = is;
+        chained = chained-for (items (m .scopes)) _ (items (m .declarations)) _ (σ .scopes) _ (ap items s) (ap items d) refl (h .chained);
+        records = subst (λ (x : Stored NodeRow). recordsListed (items x)) (sym n) (h .records);
+        planted = subst (λ (x : Stored NodeRow). Planted (items x) (statuses (σ .scopes)) (m′ .innermost) (σ .tree) (σ .opened)) (sym n)
+          (subst (λ (k : ℕ). Planted (items (m .nodes)) (statuses (σ .scopes)) k (σ .tree) (σ .opened)) (sym i) (h .planted));
+        formed = f;
+      }
+
   put-holds : (p : Put) → PutRoom m p → WellFormed (after σ (entry.Put p)) → Holds (putIn m p) (after σ (entry.Put p))
-  put-holds (put.Type t) r w =
-      record {
-        counts = let c = h .counts in let n = pushed-within (m .types) t (r .left) in search needs;
-        rows = ap (λ xs. step.withTypes (rowsOf m) xs) (pushed-items (m .types) t (r .left)) ∙ ap (λ v. rowsAfter v (entry.Put (put.Type t))) (h .rows);
-        chained = h .chained;
-        records = h .records;
-        planted = h .planted;
-        formed = w;
-      }
-  put-holds (put.Identifier i) r w =
-      record {
-        counts = let c = h .counts in let n = pushed-within (m .identifiers) i (r .left) in search needs;
-        rows = ap (λ xs. step.withIdentifiers (rowsOf m) xs) (pushed-items (m .identifiers) i (r .left)) ∙ ap (λ v. rowsAfter v (entry.Put (put.Identifier i))) (h .rows);
-        chained = h .chained;
-        records = h .records;
-        planted = h .planted;
-        formed = w;
-      }
-  put-holds (put.Path p) r w =
-      record {
-        counts = let c = h .counts in let n = pushed-within (m .paths) p (r .left) in search needs;
-        rows = ap (λ xs. step.withPaths (rowsOf m) xs) (pushed-items (m .paths) p (r .left)) ∙ ap (λ v. rowsAfter v (entry.Put (put.Path p))) (h .rows);
-        chained = h .chained;
-        records = h .records;
-        planted = h .planted;
-        formed = w;
-      }
+  put-holds (put.Type x) r w =
+      plain-holds (putIn m (put.Type x)) _ (let c = h .counts in let n = pushed-within (m .types) x (r .left) in search needs)
+      (ap (λ xs. step.withTypes (rowsOf m) xs) (pushed-items (m .types) x (r .left)) ∙ ap (λ v. rowsAfter v (entry.Put (put.Type x))) (h .rows)) refl refl refl refl w
+  put-holds (put.Identifier x) r w =
+      plain-holds (putIn m (put.Identifier x)) _ (let c = h .counts in let n = pushed-within (m .identifiers) x (r .left) in search needs)
+      (ap (λ xs. step.withIdentifiers (rowsOf m) xs) (pushed-items (m .identifiers) x (r .left)) ∙ ap (λ v. rowsAfter v (entry.Put (put.Identifier x))) (h .rows)) refl refl refl refl w
+  put-holds (put.Path x) r w =
+      plain-holds (putIn m (put.Path x)) _ (let c = h .counts in let n = pushed-within (m .paths) x (r .left) in search needs)
+      (ap (λ xs. step.withPaths (rowsOf m) xs) (pushed-items (m .paths) x (r .left)) ∙ ap (λ v. rowsAfter v (entry.Put (put.Path x))) (h .rows)) refl refl refl refl w
   put-holds (put.Scope a z) r w = scope-holds a z r w
   put-holds (put.Read x) r w =
-      record {
-        counts = let c = h .counts in let n = pushed-within (m .reads) x (r .left) in search needs;
-        rows = ap (λ xs. step.withReads (rowsOf m) xs) (pushed-items (m .reads) x (r .left)) ∙ ap (λ v. rowsAfter v (entry.Put (put.Read x))) (h .rows);
-        chained = h .chained;
-        records = h .records;
-        planted = h .planted;
-        formed = w;
-      }
-  put-holds (put.Shape s) r w =
-      record {
-        counts = let c = h .counts in let n = pushed-within (m .shapes) s (r .left) in search needs;
-        rows = ap (λ xs. step.withShapes (rowsOf m) xs) (pushed-items (m .shapes) s (r .left)) ∙ ap (λ v. rowsAfter v (entry.Put (put.Shape s))) (h .rows);
-        chained = h .chained;
-        records = h .records;
-        planted = h .planted;
-        formed = w;
-      }
+      plain-holds (putIn m (put.Read x)) _ (let c = h .counts in let n = pushed-within (m .reads) x (r .left) in search needs)
+      (ap (λ xs. step.withReads (rowsOf m) xs) (pushed-items (m .reads) x (r .left)) ∙ ap (λ v. rowsAfter v (entry.Put (put.Read x))) (h .rows)) refl refl refl refl w
+  put-holds (put.Shape x) r w =
+      plain-holds (putIn m (put.Shape x)) _ (let c = h .counts in let n = pushed-within (m .shapes) x (r .left) in search needs)
+      (ap (λ xs. step.withShapes (rowsOf m) xs) (pushed-items (m .shapes) x (r .left)) ∙ ap (λ v. rowsAfter v (entry.Put (put.Shape x))) (h .rows)) refl refl refl refl w
 
   value-holds : (v : ValueRow) → Room (m .values) → WellFormed (after σ (entry.Value v)) → Holds (valueIn m v) (after σ (entry.Value v))
   value-holds x r w =
-      record {
-        counts = let c = h .counts in let n = pushed-within (m .values) x (r .left) in search needs;
-        rows = ap (λ xs. step.withValues (rowsOf m) xs) (pushed-items (m .values) x (r .left)) ∙ ap (λ v. rowsAfter v (entry.Value x)) (h .rows);
-        chained = h .chained;
-        records = h .records;
-        planted = h .planted;
-        formed = w;
-      }
+      plain-holds (valueIn m x) _ (let c = h .counts in let n = pushed-within (m .values) x (r .left) in search needs)
+      (ap (λ xs. step.withValues (rowsOf m) xs) (pushed-items (m .values) x (r .left)) ∙ ap (λ v. rowsAfter v (entry.Value x)) (h .rows)) refl refl refl refl w
 
-  -- Scope k's row changed, and the row that the rows that are put have for it
-  row-put : (k : ℕ) → k < m .scopes .count → getD (items (m .scopes)) k noScope ≡ getD (m .scopes .rows) k noScope
-  row-put k l = getD-take (m .scopes .count) (m .scopes .rows) k noScope l
-
+  -- Scope k's row changed, among the rows that are put
   changed-scopes : (k : ℕ) (f : ScopeRow → ScopeRow) → k < m .scopes .count → items (changeScope (m .scopes) k f) ≡ set (items (m .scopes)) k (f (getD (items (m .scopes)) k noScope))
-  changed-scopes k f l = changed-items (m .scopes) (f (getD (m .scopes .rows) k noScope)) k ∙ ap (λ r. set (items (m .scopes)) k (f r)) (sym (row-put k l))
+  changed-scopes k f l = changed-items (m .scopes) (f (getD (m .scopes .rows) k noScope)) k ∙ ap (λ r. set (items (m .scopes)) k (f r)) (sym (row-put m σ h k l))
 
   -- the Scope put last, by the sheet
   last-is : length (σ .scopes) - 1 ≡ lastScope m
@@ -195,7 +167,7 @@ module _ (m : Memory) (σ : State) (h : Holds m σ) where
     last-in = omega (arith, r .last .some, items-many (m .scopes) (h .counts .scopes))
 
     first-same : getD (items (m .scopes)) (lastScope m) noScope .first ≡ firstDeclared m
-    first-same = ap (λ r. r .first) (row-put (lastScope m) (omega (arith, r .last .some)))
+    first-same = ap (λ r. r .first) (row-put m σ h (lastScope m) (omega (arith, r .last .some)))
 
     -- the new row's number, by the rows that are put and by the sheet
     number-is : length (items (m .declarations)) ≡ m .declarations .count
@@ -271,14 +243,8 @@ module _ (m : Memory) (σ : State) (h : Holds m σ) where
 
   part-holds : (p : Part) → PartRoom m p → WellFormed (after σ (entry.Part p)) → Holds (partIn m p) (after σ (entry.Part p))
   part-holds (part.Dependency x) r w =
-      record {
-        counts = let c = h .counts in let n = pushed-within (m .dependencies) x (r .left) in search needs;
-        rows = ap (λ xs. step.withDependencies (rowsOf m) xs) (pushed-items (m .dependencies) x (r .left)) ∙ ap (λ v. rowsAfter v (entry.Part (part.Dependency x))) (h .rows);
-        chained = h .chained;
-        records = h .records;
-        planted = h .planted;
-        formed = w;
-      }
+      plain-holds (partIn m (part.Dependency x)) _ (let c = h .counts in let n = pushed-within (m .dependencies) x (r .left) in search needs)
+      (ap (λ xs. step.withDependencies (rowsOf m) xs) (pushed-items (m .dependencies) x (r .left)) ∙ ap (λ v. rowsAfter v (entry.Part (part.Dependency x))) (h .rows)) refl refl refl refl w
   part-holds (part.Declaration k d) r w = go (eqb (firstDeclared m) 4294967295) refl
     where
       go : (b : Bool) → eqb (firstDeclared m) 4294967295 ≡ b → Holds (cond b (declaredFirst m k d) (declaredNext m k d)) (after σ (entry.Part (part.Declaration k d)))

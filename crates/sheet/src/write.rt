@@ -12,7 +12,7 @@ ghost use Rattle.sheet.specs.Tables.{memory};
 ghost use Rattle.sheet.specs.Holds.{Holds};
 ghost use Rattle.sheet.specs.Kept.{Long, RestKept};
 ghost use Rattle.sheet.specs.Ends.{endOf};
-ghost use Rattle.sheet.specs.Written.{putIn, partIn, valueIn, withScopes, withNodes, changeScope, declaredFirst, declaredNext, firstDeclared, lastScope, startingAt, standing, reassigning, NodePut, NodeIn, closedIn, Wrote};
+ghost use Rattle.sheet.specs.Written.{putIn, partIn, valueIn, withScopes, withNodes, changeScope, declaredFirst, declaredNext, firstDeclared, lastScope, standing, reassigning, NodePut, NodeIn, closedIn, Wrote};
 ghost use Rattle.sheet.specs.Room.{PutRoom, Room, LastRoom, DeclarationRoom, PartRoom, ScopeRoom, ChildRoom, NodeRoom, EntryRoom};
 
 use block::Record;
