@@ -47,7 +47,7 @@ fn last_row(rows: &[DeclarationRow], first: u32) -> u32
 
 impl Sheet<'_> {
     /// Puts a new row, for which there is room.
-    pub(crate) fn put_row(&mut self, put: Put)
+    fn put_row(&mut self, put: Put)
         requires { ⌜ PutRoom (memory (now self)) put ⌝ }
         ensures { λ _. ⌜ memory (now (self .exit)) ≡ putIn (memory (now (self .entry))) put ⌝ }
     {
@@ -65,7 +65,7 @@ impl Sheet<'_> {
     }
 
     /// Puts a value, for which there is room.
-    pub(crate) fn put_value(&mut self, row: ValueRow)
+    fn put_value(&mut self, row: ValueRow)
         requires { ⌜ Room (memory (now self) .values) ⌝ }
         ensures { λ _. ⌜ memory (now (self .exit)) ≡ valueIn (memory (now (self .entry))) row ⌝ }
     {
@@ -109,7 +109,7 @@ impl Sheet<'_> {
     }
 
     /// Puts a part of the Scope put last.
-    pub(crate) fn put_part(&mut self, part: Part)
+    fn put_part(&mut self, part: Part)
         requires { ⌜ PartRoom (memory (now self)) part ⌝ }
         ensures { λ _. ⌜ memory (now (self .exit)) ≡ partIn (memory (now (self .entry))) part ⌝ }
     {
@@ -145,7 +145,7 @@ impl Sheet<'_> {
     }
 
     /// Puts a node, which is the innermost open node then unless Add made it.
-    pub(crate) fn put_node(&mut self, made: Record, node: Node)
+    fn put_node(&mut self, made: Record, node: Node)
         requires { ⌜ NodeRoom (memory (now self)) node ⌝ }
         ensures { λ _. ⌜ NodeIn (memory (now (self .entry))) made node (memory (now (self .exit))) ⌝ }
     {
@@ -162,7 +162,7 @@ impl Sheet<'_> {
     }
 
     /// Closes the innermost open node.
-    pub(crate) fn close(&mut self)
+    fn close(&mut self)
         requires { ⌜ memory (now self) .innermost < length (memory (now self) .nodes .rows) ⌝ }
         ensures { λ _. ⌜ memory (now (self .exit)) ≡ closedIn (memory (now (self .entry))) ⌝ }
     {
