@@ -77,7 +77,7 @@ same-refused m σ τ e h k =
     let stand : statuses (σ .scopes) ≡ statuses (τ .scopes) = sym (statuses-are S D S (σ .scopes) (h .chained .held)) ∙ statuses-are S D S (τ .scopes) (k .chained .held) in
     let N = items (m .nodes) in
     let top : topOf σ ≡ topOf τ =
-          sym (innermost-node N (statuses (σ .scopes)) (m .innermost) (σ .tree) (σ .opened) (h .planted)) ∙ innermost-node N (statuses (τ .scopes)) (m .innermost) (τ .tree) (τ .opened) (k .planted) in
+    sym (innermost-node N (statuses (σ .scopes)) (m .innermost) (σ .tree) (σ .opened) (h .planted)) ∙ innermost-node N (statuses (τ .scopes)) (m .innermost) (τ .tree) (τ .opened) (k .planted) in
     let many : σ .opened ≡ τ .opened = opened-same N (statuses (σ .scopes)) (statuses (τ .scopes)) (m .innermost) (σ .tree) (τ .tree) (σ .opened) (τ .opened) (h .planted) (k .planted) in
     ap (λ (w : Rows). refusedBy w (statuses (σ .scopes)) (topOf σ) (σ .opened) e) rows
     ∙ ap (λ (ss : List Status). refusedBy (τ .rows) ss (topOf σ) (σ .opened) e) stand

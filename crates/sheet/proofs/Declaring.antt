@@ -55,18 +55,18 @@ chain-none D a (k ∷ ks) few e b c = absurd (omega (arith, c .0, ltb-true k (le
 
 -- one number more at the end of a list, where only its last link changes
 chain-also : (next next′ : ℕ → ℕ) (n k : ℕ) (ks : List ℕ) → Chain next (next k) ks → distinct (k ∷ ks) ≡ true → ((m : ℕ) → member m (k ∷ ks) ≡ true → m ≢ lastIn k ks → next′ m ≡ next m)
-  → next′ (lastIn k ks) ≡ n → next′ n ≡ 4294967295 → Chain next′ (next′ k) (ks ++ n ∷ [])
+    → next′ (lastIn k ks) ≡ n → next′ n ≡ 4294967295 → Chain next′ (next′ k) (ks ++ n ∷ [])
 chain-also next next′ n k [] c d same to end = (to, end)
 chain-also next next′ n k (j ∷ js) c d same to end =
     let a = and-parts (not (member k (j ∷ js))) (distinct (j ∷ js)) d in
-    let apart : k ≢ lastIn j js = λ e. member-other (lastIn j js) k (j ∷ js) (last-member j js) (not-true (member k (j ∷ js)) (a .0)) (sym e) in
-    (same k (member-here k k (j ∷ js) refl) apart ∙ c .0,
-     chain-also next next′ n j js (c .1) (a .1) (λ m h ne. same m (or-right (eqb k m) (member m (j ∷ js)) h) ne) to end)
+    let apart : k ≢ lastIn j js = λ e. member-other (lastIn j js) k (j ∷ js) (last-member j js) (not-true (member k (j ∷ js)) (a .0)) (sym e) in (
+      same k (member-here k k (j ∷ js) refl) apart ∙ c .0,
+      chain-also next next′ n j js (c .1) (a .1) (λ m h ne. same m (or-right (eqb k m) (member m (j ∷ js)) h) ne) to end,
+    )
 
 -- a new row, n, at the end of Scope l's list
 module _ (S : List ScopeRow) (D : List DeclarationRow) (ss : List Scope) (chained : Chained S D ss) (l : ℕ) (within : l < length S)
-  (once : distinct (gathered (λ k. k .declares) ss) ≡ true) (put : every (λ n. ltb n (length D)) (gathered (λ k. k .declares) ss) ≡ true) (few : length D ≤ 1024) where
-
+    (once : distinct (gathered (λ k. k .declares) ss) ≡ true) (put : every (λ n. ltb n (length D)) (gathered (λ k. k .declares) ss) ≡ true) (few : length D ≤ 1024) where
   many : length ss ≡ length S
   many = told S D S ss (chained .held) .count
 
@@ -75,10 +75,9 @@ module _ (S : List ScopeRow) (D : List DeclarationRow) (ss : List Scope) (chaine
 
   -- the other Scopes' lists are as they were
   module _ (S′ : List ScopeRow) (D′ : List DeclarationRow) (long : length S′ ≡ length S) (others : (i : ℕ) → i ≢ l → getD S′ i noScope ≡ getD S i noScope)
-    (links : (n : ℕ) → nextMerged S′ n ≡ nextMerged S n) (longer : length D′ ≡ length D + 1)
-    (same : (m : ℕ) → m < length D → member m (getD ss l blank .declares) ≡ false → nextDeclaration D′ m ≡ nextDeclaration D m)
-    (here : ScopeHeld S′ D′ (getD S′ l noScope) (declaring (length D) (getD ss l blank))) where
-
+      (links : (n : ℕ) → nextMerged S′ n ≡ nextMerged S n) (longer : length D′ ≡ length D + 1)
+      (same : (m : ℕ) → m < length D → member m (getD ss l blank .declares) ≡ false → nextDeclaration D′ m ≡ nextDeclaration D m)
+      (here : ScopeHeld S′ D′ (getD S′ l noScope) (declaring (length D) (getD ss l blank))) where
     also-held : (i : ℕ) → i < length S → (i ≡ l) ⊎ (i ≡ l → ⊥) → ScopeHeld S′ D′ (getD S′ i noScope) (getD (altered ss l (declaring (length D))) i blank)
     also-held i h (inl e) =
         held-for S′ D′ (getD S′ l noScope) _ (declaring (length D) (getD ss l blank)) _ (ap (λ j. getD S′ j noScope) e)
@@ -99,12 +98,12 @@ module _ (S : List ScopeRow) (D : List DeclarationRow) (ss : List Scope) (chaine
     new-in =
         in-gathered (λ k. k .declares) blank (altered ss l (declaring (length D))) l (length D) (omega (arith, many, length-set ss l (declaring (length D) (getD ss l blank))))
         (ap (λ s. member (length D) (s .declares)) (getD-set-same ss l (declaring (length D) (getD ss l blank)) blank (omega (arith, many)))
-          ∙ member-append (length D) (getD ss l blank .declares) (length D ∷ []) ∙ or-right (member (length D) (getD ss l blank .declares)) (member (length D) (length D ∷ [])) (member-here (length D) (length D) [] refl))
+        ∙ member-append (length D) (getD ss l blank .declares) (length D ∷ []) ∙ or-right (member (length D) (getD ss l blank .declares)) (member (length D) (length D ∷ [])) (member-here (length D) (length D) [] refl))
 
     also-loose : (n : ℕ) → n < length D′ → member n (gathered (λ k. k .declares) (altered ss l (declaring (length D)))) ≡ false → nextDeclaration D′ n ≡ 4294967295
     also-loose n h out =
         let old : member n (gathered (λ k. k .declares) ss) ≡ false =
-              in-none (λ k. k .declares) blank ss (altered ss l (declaring (length D))) n (altered-member ss l (declaring (length D)) (λ k. k .declares) n (also-more n)) out in
+        in-none (λ k. k .declares) blank ss (altered ss l (declaring (length D))) n (altered-member ss l (declaring (length D)) (λ k. k .declares) n (also-more n)) out in
         let ne : n ≢ length D = λ e. member-other (length D) n (gathered (λ k. k .declares) (altered ss l (declaring (length D)))) new-in out (sym e) in
         same n (omega arith) (apart (cases-bool (member n (getD ss l blank .declares))) old) ∙ chained .loose n (omega arith) old
       where
@@ -119,7 +118,7 @@ module _ (S : List ScopeRow) (D : List DeclarationRow) (ss : List Scope) (chaine
           loose = also-loose;
           loose-merged = λ n h out.
               links n ∙ chained .loose-merged n (omega arith)
-                (in-none (λ k. k .merged) blank ss (altered ss l (declaring (length D))) n (altered-member ss l (declaring (length D)) (λ k. k .merged) n (λ m. m)) out);
+              (in-none (λ k. k .merged) blank ss (altered ss l (declaring (length D))) n (altered-member ss l (declaring (length D)) (λ k. k .merged) n (λ m. m)) out);
         }
 
   -- Scope l's row, and the numbers that it declares
@@ -149,23 +148,23 @@ module _ (S : List ScopeRow) (D : List DeclarationRow) (ss : List Scope) (chaine
 
     -- the first of its list
     pub chained-first : getD S l noScope .first ≡ 4294967295
-      → Chained (set S l (startingAt (length D) (getD S l noScope))) (D ++ newDeclaration key declared ∷ []) (altered ss l (declaring (length D)))
+        → Chained (set S l (startingAt (length D) (getD S l noScope))) (D ++ newDeclaration key declared ∷ []) (altered ss l (declaring (length D)))
     chained-first none =
         also-chained (set S l (startingAt (length D) (getD S l noScope))) (D ++ newDeclaration key declared ∷ []) (length-set S l (startingAt (length D) (getD S l noScope)))
         (λ i ne. getD-set-other S l i (startingAt (length D) (getD S l noScope)) noScope ne) links (length-push D (newDeclaration key declared)) (λ m h out. old-next m h)
         (held-for (set S l (startingAt (length D) (getD S l noScope))) (D ++ newDeclaration key declared ∷ []) (startingAt (length D) (getD S l noScope)) _ (declaring (length D) (getD ss l blank)) _
-          (getD-set-same S l (startingAt (length D) (getD S l noScope)) noScope within) refl
-          (record {
-            start-is = row-here .start-is;
-            end-is = row-here .end-is;
-            status-is = row-here .status-is;
-            status-small = row-here .status-small;
-            reassigns-is = row-here .reassigns-is;
-            begin-is = row-here .begin-is;
-            declares = subst (λ (ks : List ℕ). Chain (nextDeclaration (D ++ newDeclaration key declared ∷ [])) (length D) (ks ++ length D ∷ []))
+        (getD-set-same S l (startingAt (length D) (getD S l noScope)) noScope within) refl
+        (record {
+          start-is = row-here .start-is;
+          end-is = row-here .end-is;
+          status-is = row-here .status-is;
+          status-small = row-here .status-small;
+          reassigns-is = row-here .reassigns-is;
+          begin-is = row-here .begin-is;
+          declares = subst (λ (ks : List ℕ). Chain (nextDeclaration (D ++ newDeclaration key declared ∷ [])) (length D) (ks ++ length D ∷ []))
               (sym (chain-none D (getD S l noScope .first) (getD ss l blank .declares) few none below-here (row-here .declares))) (refl, new-next);
-            merged = held-moved S (set S l (startingAt (length D) (getD S l noScope))) D D (getD S l noScope) (getD ss l blank) (λ n m. refl) (λ n m. links n) row-here .merged;
-          }))
+          merged = held-moved S (set S l (startingAt (length D) (getD S l noScope))) D D (getD S l noScope) (getD ss l blank) (λ n m. refl) (λ n m. links n) row-here .merged;
+        }))
       where
         links : (n : ℕ) → nextMerged (set S l (startingAt (length D) (getD S l noScope))) n ≡ nextMerged S n
         links n = set-link S l (startingAt (length D) (getD S l noScope)) n refl
@@ -195,7 +194,7 @@ module _ (S : List ScopeRow) (D : List DeclarationRow) (ss : List Scope) (chaine
       linked-end : nextDeclaration (linked D key declared (getD S l noScope .first)) (endOf D (getD S l noScope .first)) ≡ length D
       linked-end =
           ap (λ d. d .next) (getD-set-same (D ++ newDeclaration key declared ∷ []) (endOf D (getD S l noScope .first)) (followedBy (length D) (getD (D ++ newDeclaration key declared ∷ []) (endOf D (getD S l noScope .first)) noDeclaration)) noDeclaration
-            (omega (arith, end-within, length-push D (newDeclaration key declared))))
+          (omega (arith, end-within, length-push D (newDeclaration key declared))))
 
       linked-new : nextDeclaration (linked D key declared (getD S l noScope .first)) (length D) ≡ 4294967295
       linked-new =
@@ -207,19 +206,21 @@ module _ (S : List ScopeRow) (D : List DeclarationRow) (ss : List Scope) (chaine
       linked-chain = go (getD ss l blank .declares) (row-here .declares) below-here once-here (λ m h. declared-low l m (omega (arith, many)) h)
         where
           go : (ks : List ℕ) → Chain (nextDeclaration D) (getD S l noScope .first) ks → every (λ n. ltb n (length D)) ks ≡ true → distinct ks ≡ true → ((m : ℕ) → member m ks ≡ true → m < length D)
-            → Chain (nextDeclaration (linked D key declared (getD S l noScope .first))) (getD S l noScope .first) (ks ++ length D ∷ [])
+              → Chain (nextDeclaration (linked D key declared (getD S l noScope .first))) (getD S l noScope .first) (ks ++ length D ∷ [])
           go [] c b d low = absurd (some c)
           go (k ∷ ks) c b d low =
-              let is : endOf D (getD S l noScope .first) ≡ lastIn k ks = end-last k ks c b d in
-              (c .0, chain-also (nextDeclaration D) (nextDeclaration (linked D key declared (getD S l noScope .first))) (length D) k ks (c .1) d
-                (λ m h ne. linked-old m (low m h) (λ e. ne (e ∙ is)))
-                (ap (λ i. nextDeclaration (linked D key declared (getD S l noScope .first)) i) (sym is) ∙ linked-end) linked-new)
+              let is : endOf D (getD S l noScope .first) ≡ lastIn k ks = end-last k ks c b d in (
+                c .0,
+                chain-also (nextDeclaration D) (nextDeclaration (linked D key declared (getD S l noScope .first))) (length D) k ks (c .1) d
+                    (λ m h ne. linked-old m (low m h) (λ e. ne (e ∙ is)))
+                    (ap (λ i. nextDeclaration (linked D key declared (getD S l noScope .first)) i) (sym is) ∙ linked-end) linked-new,
+              )
 
       pub chained-next : Chained S (linked D key declared (getD S l noScope .first)) (altered ss l (declaring (length D)))
       chained-next =
           also-chained S (linked D key declared (getD S l noScope .first)) refl (λ i ne. refl) (λ n. refl)
           (length-set (D ++ newDeclaration key declared ∷ []) (endOf D (getD S l noScope .first)) (followedBy (length D) (getD (D ++ newDeclaration key declared ∷ []) (endOf D (getD S l noScope .first)) noDeclaration))
-            ∙ length-push D (newDeclaration key declared))
+          ∙ length-push D (newDeclaration key declared))
           (λ m h out. linked-old m h (λ e. member-other (endOf D (getD S l noScope .first)) m (getD ss l blank .declares) end-in out (sym e)))
           (record {
             start-is = row-here .start-is;

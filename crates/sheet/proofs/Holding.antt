@@ -47,9 +47,9 @@ chain-like next next′ a (k ∷ ks) e c =
     (c .0, subst (λ (x : ℕ). Chain next′ x ks) (sym (e k (member-here k k ks refl))) (chain-like next next′ (next k) ks (λ j h. e j (or-right (eqb k j) (member j ks) h)) (c .1)))
 
 pub held-moved : (S S′ : List ScopeRow) (D D′ : List DeclarationRow) (r : ScopeRow) (k : Scope)
-  → ((n : ℕ) → member n (k .declares) ≡ true → nextDeclaration D′ n ≡ nextDeclaration D n)
-  → ((n : ℕ) → member n (k .merged) ≡ true → nextMerged S′ n ≡ nextMerged S n)
-  → ScopeHeld S D r k → ScopeHeld S′ D′ r k
+    → ((n : ℕ) → member n (k .declares) ≡ true → nextDeclaration D′ n ≡ nextDeclaration D n)
+    → ((n : ℕ) → member n (k .merged) ≡ true → nextMerged S′ n ≡ nextMerged S n)
+    → ScopeHeld S D r k → ScopeHeld S′ D′ r k
 held-moved S S′ D D′ r k d m h =
     record {
       start-is = h .start-is;
@@ -71,13 +71,13 @@ module _ (S : List ScopeRow) (D : List DeclarationRow) (ss : List Scope) (chaine
   new-link n l = ap (λ r. r .next) (getD-append-left S (newScope a z b ∷ []) noScope n l)
 
   new-held : (i : ℕ) → i < length (S ++ newScope a z b ∷ []) → (i < length S) ⊎ (length S ≤ i)
-    → ScopeHeld (S ++ newScope a z b ∷ []) D (getD (S ++ newScope a z b ∷ []) i noScope) (getD (ss ++ fresh a z b ∷ []) i blank)
+      → ScopeHeld (S ++ newScope a z b ∷ []) D (getD (S ++ newScope a z b ∷ []) i noScope) (getD (ss ++ fresh a z b ∷ []) i blank)
   new-held i l (inl h) =
       held-for (S ++ newScope a z b ∷ []) D (getD S i noScope) _ (getD ss i blank) _
       (getD-append-left S (newScope a z b ∷ []) noScope i h) (getD-append-left ss (fresh a z b ∷ []) blank i (omega (arith, new-many)))
       (held-moved S (S ++ newScope a z b ∷ []) D D (getD S i noScope) (getD ss i blank) (λ n m. refl)
-        (λ n m. new-link n (omega (arith, new-many, ltb-true n (length ss) (every-member (λ n. ltb n (length ss)) (gathered (λ k. k .merged) ss) n put (in-gathered (λ k. k .merged) blank ss i n (omega (arith, new-many)) m)))))
-        (held-at S D S ss (chained .held) i h))
+      (λ n m. new-link n (omega (arith, new-many, ltb-true n (length ss) (every-member (λ n. ltb n (length ss)) (gathered (λ k. k .merged) ss) n put (in-gathered (λ k. k .merged) blank ss i n (omega (arith, new-many)) m)))))
+      (held-at S D S ss (chained .held) i h))
   new-held i l (inr h) =
       let e : length S ≡ i = omega (arith, length-push S (newScope a z b)) in
       held-for (S ++ newScope a z b ∷ []) D (newScope a z b) _ (fresh a z b) _ (getD-push S (newScope a z b) noScope i e) (getD-push ss (fresh a z b) blank i (new-many ∙ e))
@@ -111,7 +111,7 @@ set-link (x ∷ xs) (suc k) r (suc n) e = set-link xs k r n e
 
 -- what was in a list is still, where a Scope's lists lose nothing
 pub altered-member : (ss : List Scope) (k : ℕ) (g : Scope → Scope) (f : Scope → List ℕ) (n : ℕ) → (member n (f (getD ss k blank)) ≡ true → member n (f (g (getD ss k blank))) ≡ true)
-  → (i : ℕ) → i < length ss → member n (f (getD ss i blank)) ≡ true → (i < length (altered ss k g)) × (member n (f (getD (altered ss k g) i blank)) ≡ true)
+    → (i : ℕ) → i < length ss → member n (f (getD ss i blank)) ≡ true → (i < length (altered ss k g)) × (member n (f (getD (altered ss k g) i blank)) ≡ true)
 altered-member ss k g f n more i l h = (omega (arith, length-set ss k (g (getD ss k blank))), go (cases-eq i k))
   where
     go : (i ≡ k) ⊎ (i ≡ k → ⊥) → member n (f (getD (altered ss k g) i blank)) ≡ true
@@ -123,9 +123,8 @@ altered-member ss k g f n more i l h = (omega (arith, length-set ss k (g (getD s
 
 -- Scope k and its row changed, but no link and no list
 module _ (S : List ScopeRow) (D : List DeclarationRow) (ss : List Scope) (chained : Chained S D ss) (k : ℕ) (within : k < length S) (f : ScopeRow → ScopeRow) (g : Scope → Scope)
-  (link : (r : ScopeRow) → f r .next ≡ r .next) (declares : (s : Scope) → g s .declares ≡ s .declares) (merged : (s : Scope) → g s .merged ≡ s .merged)
-  (holds : (T : List ScopeRow) (r : ScopeRow) (s : Scope) → ScopeHeld T D r s → ScopeHeld T D (f r) (g s)) where
-
+    (link : (r : ScopeRow) → f r .next ≡ r .next) (declares : (s : Scope) → g s .declares ≡ s .declares) (merged : (s : Scope) → g s .merged ≡ s .merged)
+    (holds : (T : List ScopeRow) (r : ScopeRow) (s : Scope) → ScopeHeld T D r s → ScopeHeld T D (f r) (g s)) where
   changed-link : (n : ℕ) → nextMerged (set S k (f (getD S k noScope))) n ≡ nextMerged S n
   changed-link n = set-link S k (f (getD S k noScope)) n (link (getD S k noScope))
 
@@ -138,7 +137,7 @@ module _ (S : List ScopeRow) (D : List DeclarationRow) (ss : List Scope) (chaine
       (ap (λ j. getD (set S k (f (getD S k noScope))) j noScope) e ∙ getD-set-same S k (f (getD S k noScope)) noScope within)
       (ap (λ j. getD (altered ss k g) j blank) e ∙ getD-set-same ss k (g (getD ss k blank)) blank (omega (arith, changed-many)))
       (holds (set S k (f (getD S k noScope))) (getD S k noScope) (getD ss k blank)
-        (held-moved S (set S k (f (getD S k noScope))) D D (getD S k noScope) (getD ss k blank) (λ n m. refl) (λ n m. changed-link n) (held-at S D S ss (chained .held) k within)))
+      (held-moved S (set S k (f (getD S k noScope))) D D (getD S k noScope) (getD ss k blank) (λ n m. refl) (λ n m. changed-link n) (held-at S D S ss (chained .held) k within)))
   changed-held i l (inr e) =
       held-for (set S k (f (getD S k noScope))) D (getD S i noScope) _ (getD ss i blank) _
       (getD-set-other S k i (f (getD S k noScope)) noScope e)
@@ -152,8 +151,8 @@ module _ (S : List ScopeRow) (D : List DeclarationRow) (ss : List Scope) (chaine
         held = held-from (set S k (f (getD S k noScope))) D (set S k (f (getD S k noScope))) (altered ss k g) (length-set ss k (g (getD ss k blank)) ∙ changed-many ∙ sym many) (λ i l. changed-held i (omega arith) (cases-eq i k));
         loose = λ n l out.
             chained .loose n l (in-none (λ s. s .declares) blank ss (altered ss k g) n
-              (altered-member ss k g (λ s. s .declares) n (λ h. ap (λ ks. member n ks) (declares (getD ss k blank)) ∙ h)) out);
+            (altered-member ss k g (λ s. s .declares) n (λ h. ap (λ ks. member n ks) (declares (getD ss k blank)) ∙ h)) out);
         loose-merged = λ n l out.
             changed-link n ∙ chained .loose-merged n (omega arith) (in-none (λ s. s .merged) blank ss (altered ss k g) n
-              (altered-member ss k g (λ s. s .merged) n (λ h. ap (λ ks. member n ks) (merged (getD ss k blank)) ∙ h)) out);
+            (altered-member ss k g (λ s. s .merged) n (λ h. ap (λ ks. member n ks) (merged (getD ss k blank)) ∙ h)) out);
       }

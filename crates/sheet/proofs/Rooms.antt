@@ -83,7 +83,7 @@ module _ (m : Memory) (σ : State) (h : Holds m σ) where
         let is : getD S (lastScope m) noScope ≡ getD (m .scopes .rows) (lastScope m) noScope = row-put (lastScope m) (omega (arith, last .some)) in
         let many : length D ≡ m .declarations .count = items-many (m .declarations) (h .counts .declarations) in
         let low : (getD S (lastScope m) noScope .first ≡ 4294967295 → ⊥) → getD S (lastScope m) noScope .first < length D =
-              first-within S D (σ .scopes) (h .chained) (lastScope m) (omega (arith, last .some, items-many (m .scopes) (h .counts .scopes))) (h .formed .scopes .declared) declared-put (omega (arith, room .few)) in
+        first-within S D (σ .scopes) (h .chained) (lastScope m) (omega (arith, last .some, items-many (m .scopes) (h .counts .scopes))) (h .formed .scopes .declared) declared-put (omega (arith, room .few)) in
         record {
           last = last;
           room = room;

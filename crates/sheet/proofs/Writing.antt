@@ -90,8 +90,8 @@ module _ (m : Memory) (σ : State) (h : Holds m σ) where
         counts = let c = h .counts in let n = pushed-within (m .scopes) (newScope a z (m .dependencies .count)) (r .left) in search needs;
         rows = h .rows;
         chained = chained-for (S ++ newScope a z (m .dependencies .count) ∷ []) _ D D (σ .scopes ++ step.fresh a z (m .dependencies .count) ∷ []) _
-          (pushed-items (m .scopes) (newScope a z (m .dependencies .count)) (r .left)) refl (ap (λ n. σ .scopes ++ step.fresh a z n ∷ []) (dependencies-many m σ h))
-          (chained-new S D (σ .scopes) (h .chained) (h .formed .scopes .merged-put) a z (m .dependencies .count));
+            (pushed-items (m .scopes) (newScope a z (m .dependencies .count)) (r .left)) refl (ap (λ n. σ .scopes ++ step.fresh a z n ∷ []) (dependencies-many m σ h))
+            (chained-new S D (σ .scopes) (h .chained) (h .formed .scopes .merged-put) a z (m .dependencies .count));
         records = h .records;
         planted = planted-among (statuses (also (σ .scopes) (step.fresh a z (length (σ .rows .dependencies))))) (w .tree);
         formed = w;
@@ -99,7 +99,7 @@ module _ (m : Memory) (σ : State) (h : Holds m σ) where
 
   -- rows that no list and no tree goes through
   plain-holds : (m′ : Memory) (w : Rows) → Within m′ → rowsOf m′ ≡ w → m′ .scopes ≡ m .scopes → m′ .declarations ≡ m .declarations → m′ .nodes ≡ m .nodes → m′ .innermost ≡ m .innermost
-    → WellFormed (record { rows = w; scopes = σ .scopes; tree = σ .tree; opened = σ .opened }) → Holds m′ (record { rows = w; scopes = σ .scopes; tree = σ .tree; opened = σ .opened })
+      → WellFormed (record { rows = w; scopes = σ .scopes; tree = σ .tree; opened = σ .opened }) → Holds m′ (record { rows = w; scopes = σ .scopes; tree = σ .tree; opened = σ .opened })
   plain-holds m′ w c is s d n i f =
       record {
         counts = c;
@@ -107,7 +107,7 @@ module _ (m : Memory) (σ : State) (h : Holds m σ) where
         chained = chained-for (items (m .scopes)) _ (items (m .declarations)) _ (σ .scopes) _ (ap items s) (ap items d) refl (h .chained);
         records = subst (λ (x : Stored NodeRow). recordsListed (items x)) (sym n) (h .records);
         planted = subst (λ (x : Stored NodeRow). Planted (items x) (statuses (σ .scopes)) (m′ .innermost) (σ .tree) (σ .opened)) (sym n)
-          (subst (λ (k : ℕ). Planted (items (m .nodes)) (statuses (σ .scopes)) k (σ .tree) (σ .opened)) (sym i) (h .planted));
+            (subst (λ (k : ℕ). Planted (items (m .nodes)) (statuses (σ .scopes)) k (σ .tree) (σ .opened)) (sym i) (h .planted));
         formed = f;
       }
 
@@ -151,8 +151,8 @@ module _ (m : Memory) (σ : State) (h : Holds m σ) where
         counts = let c = h .counts in let n = changed-within (m .scopes) (reassigning (getD (m .scopes .rows) l noScope)) l (c .scopes) in search needs;
         rows = h .rows;
         chained = chained-for (set S l (reassigning (getD S l noScope))) _ D D (altered (σ .scopes) l reassigned) _
-          (changed-scopes l reassigning (omega (arith, r .some))) refl (ap (λ k. altered (σ .scopes) k reassigned) last-is)
-          (chained-changed S D (σ .scopes) (h .chained) l (omega (arith, r .some, items-many (m .scopes) (h .counts .scopes))) reassigning reassigned (λ r. refl) (λ s. refl) (λ s. refl)
+            (changed-scopes l reassigning (omega (arith, r .some))) refl (ap (λ k. altered (σ .scopes) k reassigned) last-is)
+            (chained-changed S D (σ .scopes) (h .chained) l (omega (arith, r .some, items-many (m .scopes) (h .counts .scopes))) reassigning reassigned (λ r. refl) (λ s. refl) (λ s. refl)
             (λ T r s k. record { start-is = k .start-is; end-is = k .end-is; status-is = k .status-is; status-small = k .status-small; reassigns-is = refl; begin-is = k .begin-is; declares = k .declares; merged = k .merged }));
         records = h .records;
         planted = planted-among (statuses (alteredLast (σ .scopes) reassigned)) (w .tree);
@@ -190,14 +190,14 @@ module _ (m : Memory) (σ : State) (h : Holds m σ) where
         let l = lastScope m in
         record {
           counts =
-            let c = h .counts in
-            let n = pushed-within (m .declarations) (newDeclaration k d) (r .room .left) in
-            let x = changed-within (m .scopes) (startingAt (m .declarations .count) (getD (m .scopes .rows) l noScope)) l (c .scopes) in
-            search needs;
+              let c = h .counts in
+              let n = pushed-within (m .declarations) (newDeclaration k d) (r .room .left) in
+              let x = changed-within (m .scopes) (startingAt (m .declarations .count) (getD (m .scopes .rows) l noScope)) l (c .scopes) in
+              search needs;
           rows = ap (λ xs. step.withDeclarations (rowsOf m) xs) (ap (λ xs. map declarationOf xs) wide-is ∙ declared-rows) ∙ ap (λ v. rowsAfter v (entry.Part (part.Declaration k d))) (h .rows);
           chained = chained-for (set S l (startingAt (length D) (getD S l noScope))) _ (D ++ newDeclaration k d ∷ []) _ (altered (σ .scopes) l (declaring (length D))) _
-            (changed-scopes l (startingAt (m .declarations .count)) (omega (arith, r .last .some)) ∙ ap (λ n. set S l (startingAt n (getD S l noScope))) (sym number-is)) wide-is declared-is
-            (chained-first S D (σ .scopes) (h .chained) l last-in (h .formed .scopes .declared) (declared-put m σ h) few-put k d (first-same ∙ none));
+              (changed-scopes l (startingAt (m .declarations .count)) (omega (arith, r .last .some)) ∙ ap (λ n. set S l (startingAt n (getD S l noScope))) (sym number-is)) wide-is declared-is
+              (chained-first S D (σ .scopes) (h .chained) l last-in (h .formed .scopes .declared) (declared-put m σ h) few-put k d (first-same ∙ none));
           records = h .records;
           planted = planted-among (statuses (alteredLast (σ .scopes) (declaring (length (σ .rows .declarations))))) (w .tree);
           formed = w;
@@ -208,7 +208,7 @@ module _ (m : Memory) (σ : State) (h : Holds m σ) where
       end-put = omega (arith, number-is, end-low (length (items (m .declarations))) (items (m .declarations)) (firstDeclared m) (omega (arith, number-is, r .first some)))
 
       linked-is : items (changeDeclaration (pushed (m .declarations) (newDeclaration k d)) (endOf (items (m .declarations)) (firstDeclared m)) (followedBy (m .declarations .count)))
-        ≡ linked (items (m .declarations)) k d (firstDeclared m)
+          ≡ linked (items (m .declarations)) k d (firstDeclared m)
       linked-is =
           let D = items (m .declarations) in
           let wide : Stored DeclarationRow = pushed (m .declarations) (newDeclaration k d) in
@@ -227,15 +227,15 @@ module _ (m : Memory) (σ : State) (h : Holds m σ) where
           let at : ℕ = endOf D (firstDeclared m) in
           record {
             counts =
-              let c = h .counts in
-              let x = changed-within wide (followedBy (m .declarations .count) (getD (wide .rows) at noDeclaration)) at (pushed-within (m .declarations) (newDeclaration k d) (r .room .left)) in
-              search needs;
+                let c = h .counts in
+                let x = changed-within wide (followedBy (m .declarations .count) (getD (wide .rows) at noDeclaration)) at (pushed-within (m .declarations) (newDeclaration k d) (r .room .left)) in
+                search needs;
             rows =
-              ap (λ xs. step.withDeclarations (rowsOf m) xs) (ap (λ xs. map declarationOf xs) linked-is ∙ linked-same (D ++ newDeclaration k d ∷ []) at (length D) ∙ declared-rows)
-              ∙ ap (λ v. rowsAfter v (entry.Part (part.Declaration k d))) (h .rows);
+                ap (λ xs. step.withDeclarations (rowsOf m) xs) (ap (λ xs. map declarationOf xs) linked-is ∙ linked-same (D ++ newDeclaration k d ∷ []) at (length D) ∙ declared-rows)
+                ∙ ap (λ v. rowsAfter v (entry.Part (part.Declaration k d))) (h .rows);
             chained = chained-for S S (linked D k d (getD S l noScope .first)) _ (altered (σ .scopes) l (declaring (length D))) _
-              refl (linked-is ∙ ap (λ a. linked D k d a) (sym first-same)) declared-is
-              (chained-next S D (σ .scopes) (h .chained) l last-in (h .formed .scopes .declared) (declared-put m σ h) few-put k d (λ e. some (sym first-same ∙ e)));
+                refl (linked-is ∙ ap (λ a. linked D k d a) (sym first-same)) declared-is
+                (chained-next S D (σ .scopes) (h .chained) l last-in (h .formed .scopes .declared) (declared-put m σ h) few-put k d (λ e. some (sym first-same ∙ e)));
             records = h .records;
             planted = planted-among (statuses (alteredLast (σ .scopes) (declaring (length (σ .rows .declarations))))) (w .tree);
             formed = w;
@@ -280,8 +280,8 @@ module _ (m : Memory) (σ : State) (h : Holds m σ) where
     few-nodes = omega (arith, many-is, room .few)
 
     planted-for : (ss ss′ : List Status) (at at′ : ℕ) (o : ℕ) → at′ ≡ at → ss′ ≡ ss
-      → Planted (appended (items (m .nodes)) (m .innermost) made) ss at (grow (σ .opened) (length (items (m .nodes))) x (σ .tree)) o
-      → Planted (items ns) ss′ at′ (grow (σ .opened) (length (σ .rows .nodes)) x (σ .tree)) o
+        → Planted (appended (items (m .nodes)) (m .innermost) made) ss at (grow (σ .opened) (length (items (m .nodes))) x (σ .tree)) o
+        → Planted (items ns) ss′ at′ (grow (σ .opened) (length (σ .rows .nodes)) x (σ .tree)) o
     planted-for ss ss′ at at′ o e f q =
         subst (λ (rs : List NodeRow). Planted rs ss′ at′ (grow (σ .opened) (length (σ .rows .nodes)) x (σ .tree)) o) (sym (p .rows))
         (subst (λ (n : ℕ). Planted (appended (items (m .nodes)) (m .innermost) made) ss′ at′ (grow (σ .opened) n x (σ .tree)) o) node-number
@@ -301,13 +301,13 @@ module _ (m : Memory) (σ : State) (h : Holds m σ) where
           chained = h .chained;
           records = node-records;
           planted = planted-for (statuses (σ .scopes)) _ (m .innermost) _ (σ .opened) refl refl
-            (planted-add (items (m .nodes)) (statuses (σ .scopes)) (m .innermost) (σ .tree) (σ .opened) (h .planted) made x few-nodes node-is can add);
+              (planted-add (items (m .nodes)) (statuses (σ .scopes)) (m .innermost) (σ .tree) (σ .opened) (h .planted) made x few-nodes node-is can add);
           formed = w;
         }
 
     -- a node that Open made of no Scope is the innermost then
     open-holds : canHold (topOf σ) x ≡ true → isAdd x ≡ false → isScope x ≡ false → σ .opened < 63 → WellFormed (grown (σ .scopes) (σ .opened + 1))
-      → Holds (withInnermost (withNodes m ns) (m .nodes .count)) (grown (σ .scopes) (σ .opened + 1))
+        → Holds (withInnermost (withNodes m ns) (m .nodes .count)) (grown (σ .scopes) (σ .opened + 1))
     open-holds can other plain few w =
         record {
           counts = let c = h .counts in let n = node-within in search needs;
@@ -315,43 +315,43 @@ module _ (m : Memory) (σ : State) (h : Holds m σ) where
           chained = h .chained;
           records = node-records;
           planted = planted-for (statuses (σ .scopes)) _ (length (items (m .nodes))) _ (σ .opened + 1) (sym many-is) refl
-            (planted-open (items (m .nodes)) (statuses (σ .scopes)) (m .innermost) (σ .tree) (σ .opened) (h .planted) made x few-nodes node-is can other plain few);
+              (planted-open (items (m .nodes)) (statuses (σ .scopes)) (m .innermost) (σ .tree) (σ .opened) (h .planted) made x few-nodes node-is can other plain few);
           formed = w;
         }
 
     -- so is a Scope's node, and the Scope stands
     stands-holds : (k : ℕ) → x ≡ node.Scope k → canHold (topOf σ) x ≡ true → k < m .scopes .count → getD (statuses (σ .scopes)) k Unused ≡ Unused → σ .opened < 63
-      → WellFormed (grown (altered (σ .scopes) k stood) (σ .opened + 1))
-      → Holds (withInnermost (withScopes (withNodes m ns) (changeScope (m .scopes) k standing)) (m .nodes .count)) (grown (altered (σ .scopes) k stood) (σ .opened + 1))
+        → WellFormed (grown (altered (σ .scopes) k stood) (σ .opened + 1))
+        → Holds (withInnermost (withScopes (withNodes m ns) (changeScope (m .scopes) k standing)) (m .nodes .count)) (grown (altered (σ .scopes) k stood) (σ .opened + 1))
     stands-holds k e can low unused few w =
         let S = items (m .scopes) in
         let D = items (m .declarations) in
         let q : Planted (appended (items (m .nodes)) (m .innermost) made) (set (statuses (σ .scopes)) k Stood) (length (items (m .nodes))) (grow (σ .opened) (length (items (m .nodes))) (node.Scope k) (σ .tree)) (σ .opened + 1) =
-              planted-scope (items (m .nodes)) (statuses (σ .scopes)) (m .innermost) (σ .tree) (σ .opened) (h .planted) made k few-nodes (node-is ∙ e) (ap (λ y. canHold (topOf σ) y) (sym e) ∙ can)
-                (omega (arith, scopes-many m σ h)) unused few in
+        planted-scope (items (m .nodes)) (statuses (σ .scopes)) (m .innermost) (σ .tree) (σ .opened) (h .planted) made k few-nodes (node-is ∙ e) (ap (λ y. canHold (topOf σ) y) (sym e) ∙ can)
+        (omega (arith, scopes-many m σ h)) unused few in
         record {
           counts =
-            let c = h .counts in
-            let n = node-within in
-            let y = changed-within (m .scopes) (standing (getD (m .scopes .rows) k noScope)) k (c .scopes) in
-            search needs;
+              let c = h .counts in
+              let n = node-within in
+              let y = changed-within (m .scopes) (standing (getD (m .scopes .rows) k noScope)) k (c .scopes) in
+              search needs;
           rows = all-rows;
           chained = chained-for (set S k (standing (getD S k noScope))) _ D D (altered (σ .scopes) k stood) _ (changed-scopes k standing low) refl refl
-            (chained-changed S D (σ .scopes) (h .chained) k (omega (arith, items-many (m .scopes) (h .counts .scopes))) standing stood (λ r. refl) (λ s. refl) (λ s. refl)
+              (chained-changed S D (σ .scopes) (h .chained) k (omega (arith, items-many (m .scopes) (h .counts .scopes))) standing stood (λ r. refl) (λ s. refl) (λ s. refl)
               (λ T r s a. record { start-is = a .start-is; end-is = a .end-is; status-is = refl; status-small = omega arith; reassigns-is = a .reassigns-is; begin-is = a .begin-is; declares = a .declares; merged = a .merged }));
           records = node-records;
           planted = planted-for (set (statuses (σ .scopes)) k Stood) _ (length (items (m .nodes))) _ (σ .opened + 1) (sym many-is)
-            (map-set (λ s. s .status) (σ .scopes) k (stood (getD (σ .scopes) k blank)))
-            (subst (λ (y : Node). Planted (appended (items (m .nodes)) (m .innermost) made) (set (statuses (σ .scopes)) k Stood) (length (items (m .nodes))) (grow (σ .opened) (length (items (m .nodes))) y (σ .tree)) (σ .opened + 1)) (sym e) q);
+              (map-set (λ s. s .status) (σ .scopes) k (stood (getD (σ .scopes) k blank)))
+              (subst (λ (y : Node). Planted (appended (items (m .nodes)) (m .innermost) made) (set (statuses (σ .scopes)) k Stood) (length (items (m .nodes))) (grow (σ .opened) (length (items (m .nodes))) y (σ .tree)) (σ .opened + 1)) (sym e) q);
           formed = w;
         }
 
   node-holds : (made : Record) (x : Node) (ns : Stored NodeRow) → NodePut (m .nodes) (m .innermost) made ns → entryOf made ≡ Some (entry.Node x) → NodeRoom m x
-    → Accepted (σ .rows) (statuses (σ .scopes)) (topOf σ) (σ .opened) (entry.Node x) → WellFormed (after σ (entry.Node x)) → Holds (nodeIn m ns x) (after σ (entry.Node x))
+      → Accepted (σ .rows) (statuses (σ .scopes)) (topOf σ) (σ .opened) (entry.Node x) → WellFormed (after σ (entry.Node x)) → Holds (nodeIn m ns x) (after σ (entry.Node x))
   node-holds made x ns p is r a w = go x p is r (not-false (canHold (topOf σ) x) (a .placed-is)) a w
     where
       go : (x : Node) → NodePut (m .nodes) (m .innermost) made ns → entryOf made ≡ Some (entry.Node x) → NodeRoom m x → canHold (topOf σ) x ≡ true
-        → Accepted (σ .rows) (statuses (σ .scopes)) (topOf σ) (σ .opened) (entry.Node x) → WellFormed (after σ (entry.Node x)) → Holds (nodeIn m ns x) (after σ (entry.Node x))
+          → Accepted (σ .rows) (statuses (σ .scopes)) (topOf σ) (σ .opened) (entry.Node x) → WellFormed (after σ (entry.Node x)) → Holds (nodeIn m ns x) (after σ (entry.Node x))
       go node.Body p is r can a w = open-holds made node.Body ns p is (r .child .room) can refl refl (leb-false 63 (σ .opened) (a .crowded-is)) w
       go (node.Add o v t) p is r can a w = add-holds made (node.Add o v t) ns p is (r .child .room) can refl w
       go (node.Terminal k o v) p is r can a w = open-holds made (node.Terminal k o v) ns p is (r .child .room) can refl refl (leb-false 63 (σ .opened) (a .crowded-is)) w
@@ -371,12 +371,12 @@ module _ (m : Memory) (σ : State) (h : Holds m σ) where
         chained = h .chained;
         records = h .records;
         planted = subst (λ (r : NodeRow). Planted N (statuses (σ .scopes)) (r .parent) (σ .tree) (σ .opened - 1)) (getD-take (m .nodes .count) (m .nodes .rows) (m .innermost) noNode low)
-          (planted-close N (statuses (σ .scopes)) (m .innermost) (σ .tree) (σ .opened) (h .planted) ne);
+            (planted-close N (statuses (σ .scopes)) (m .innermost) (σ .tree) (σ .opened) (h .planted) ne);
         formed = w;
       }
 
   wrote-from : (made : Record) (e : Entry) (m′ : Memory) → entryOf made ≡ Some e → EntryRoom m e → Accepted (σ .rows) (statuses (σ .scopes)) (topOf σ) (σ .opened) e → WellFormed (after σ e)
-    → Wrote m made e m′ → Holds m′ (after σ e)
+      → Wrote m made e m′ → Holds m′ (after σ e)
   wrote-from made (entry.Put p) m′ is r a w t = subst (λ (y : Memory). Holds y (after σ (entry.Put p))) (sym t) (put-holds p r w)
   wrote-from made (entry.Part p) m′ is r a w t = subst (λ (y : Memory). Holds y (after σ (entry.Part p))) (sym t) (part-holds p r w)
   wrote-from made (entry.Value v) m′ is r a w t = subst (λ (y : Memory). Holds y (after σ (entry.Value v))) (sym t) (value-holds v r w)

@@ -14,7 +14,10 @@ ghost use Rattle.sheet.specs.Kept.{Long, RestKept};
 ghost use Rattle.sheet.specs.Ends.{endOf};
 ghost use Rattle.sheet.specs.Written.{putIn, partIn, valueIn, withScopes, withNodes, changeScope, declaredFirst, declaredNext, firstDeclared, lastScope, standing, reassigning, NodePut, NodeIn, closedIn, Wrote};
 ghost use Rattle.sheet.specs.Room.{PutRoom, Room, LastRoom, DeclarationRoom, PartRoom, ScopeRoom, ChildRoom, NodeRoom, EntryRoom};
-
+use crate::rows::DeclarationRow;
+use crate::rows::ScopeRow;
+use crate::sheet::Sheet;
+use crate::tree::append;
 use block::Record;
 use screen::Entry;
 use screen::NONE;
@@ -22,11 +25,6 @@ use screen::Node;
 use screen::Part;
 use screen::Put;
 use screen::ValueRow;
-
-use crate::rows::DeclarationRow;
-use crate::rows::ScopeRow;
-use crate::sheet::Sheet;
-use crate::tree::append;
 
 /// The last row of the list from `first`, which has at most as many rows as are put; none is no row's number.
 fn last_row(rows: &[DeclarationRow], first: u32) -> u32
@@ -57,7 +55,16 @@ impl Sheet<'_> {
             Put::Path(row) => self.paths.push(row),
             Put::Scope { start, end } => {
                 let begin = self.dependencies.count;
-                self.scopes.push(ScopeRow { start, end, begin, first: NONE, merged: NONE, next: NONE, status: 0, reassigns: 0 });
+                self.scopes.push(ScopeRow {
+                    start,
+                    end,
+                    begin,
+                    first: NONE,
+                    merged: NONE,
+                    next: NONE,
+                    status: 0,
+                    reassigns: 0,
+                });
             }
             Put::Read(row) => self.reads.push(row),
             Put::Shape(row) => self.shapes.push(row),
@@ -79,7 +86,10 @@ impl Sheet<'_> {
     {
         let last = self.scopes.count as usize - 1;
         let row = self.scopes.rows[last];
-        self.scopes.rows[last] = ScopeRow { reassigns: 1, ..row };
+        self.scopes.rows[last] = ScopeRow {
+            reassigns: 1,
+            ..row
+        };
     }
 
     /// Puts the first declaration of the Scope put last.
@@ -88,7 +98,11 @@ impl Sheet<'_> {
         ensures { λ _. ⌜ memory (now (self .exit)) ≡ declaredFirst (memory (now (self .entry))) key declared ⌝ }
     {
         let first = self.declarations.count;
-        self.declarations.push(DeclarationRow { key, declared, next: NONE });
+        self.declarations.push(DeclarationRow {
+            key,
+            declared,
+            next: NONE,
+        });
         let last = self.scopes.count as usize - 1;
         let row = self.scopes.rows[last];
         self.scopes.rows[last] = ScopeRow { first, ..row };
@@ -103,7 +117,11 @@ impl Sheet<'_> {
         let first = self.scopes.rows[self.scopes.count as usize - 1].first;
         let end = last_row(self.declarations.put(), first) as usize;
         let next = self.declarations.count;
-        self.declarations.push(DeclarationRow { key, declared, next: NONE });
+        self.declarations.push(DeclarationRow {
+            key,
+            declared,
+            next: NONE,
+        });
         let row = self.declarations.rows[end];
         self.declarations.rows[end] = DeclarationRow { next, ..row };
     }
@@ -157,7 +175,8 @@ impl Sheet<'_> {
                 self.stand(scope);
                 self.innermost = n;
             }
-            Node::Body | Node::Terminal { .. } | Node::Arm | Node::Pruned { .. } => self.innermost = n,
+            Node::Body | Node::Terminal { .. } | Node::Arm | Node::Pruned { .. } => self.innermost =
+                n,
         }
     }
 
