@@ -35,10 +35,12 @@ pub record Accepted (w : Rows) (ss : List Status) (top : Node) (o : ℕ) (e : En
   pub placed-is : misplaced top o e ≡ false
   pub crowded-is : crowded o e ≡ false
 
+-- a reason that does not fit leaves the next
 passes : (b : Bool) (r : Refusal) (x : Option Refusal) → cond b (Some r) x ≡ None → (b ≡ false) × (x ≡ None)
 passes true r x h = absurd (let z : _≡_ {A = ℕ} 0 1 = cc in omega arith)
 passes false r x h = (refl, h)
 
+-- what is not refused passes each test by itself
 pub accepted : (w : Rows) (ss : List Status) (top : Node) (o : ℕ) (e : Entry) → refusedBy w ss top o e ≡ None → Accepted w ss top o e
 accepted w ss top o e h =
     let a = passes (not (named w ss e)) refusal.Row _ h in

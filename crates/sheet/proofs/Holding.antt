@@ -25,6 +25,7 @@ abbrev pub blank : Scope
 blank = fresh 0 0 0
 
 module _ (S : List ScopeRow) (D : List DeclarationRow) where
+  -- each Scope in its row, and back
   pub held-at : (rs : List ScopeRow) (ss : List Scope) → ScopesHeld S D rs ss → (i : ℕ) → i < length rs → ScopeHeld S D (getD rs i noScope) (getD ss i blank)
   held-at [] ss h i l = absurd (omega arith)
   held-at (r ∷ rs) [] h i l = absurd h
@@ -46,6 +47,7 @@ chain-like next next′ a [] e c = c
 chain-like next next′ a (k ∷ ks) e c =
     (c .0, subst (λ (x : ℕ). Chain next′ x ks) (sym (e k (member-here k k ks refl))) (chain-like next next′ (next k) ks (λ j h. e j (or-right (eqb k j) (member j ks) h)) (c .1)))
 
+-- a Scope whose lists keep their links
 pub held-moved : (S S′ : List ScopeRow) (D D′ : List DeclarationRow) (r : ScopeRow) (k : Scope)
     → ((n : ℕ) → member n (k .declares) ≡ true → nextDeclaration D′ n ≡ nextDeclaration D n)
     → ((n : ℕ) → member n (k .merged) ≡ true → nextMerged S′ n ≡ nextMerged S n)

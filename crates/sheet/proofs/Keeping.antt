@@ -26,6 +26,7 @@ use Rattle.sheet.specs.Kept.{Rest, RestKept}
 use Rattle.sheet.proofs.Storing.{items-many, same-rest, pushed-rest, changed-rest}
 use Rattle.sheet.proofs.Ending.{end-low}
 
+-- what each kind of entry leaves
 put-rest : (m : Memory) (p : Put) → RestKept m (putIn m p)
 put-rest m (put.Type t) = search (needs, same-rest, pushed-rest)
 put-rest m (put.Identifier i) = search (needs, same-rest, pushed-rest)

@@ -63,6 +63,7 @@ module _ {A : Type 0} (f : A → List ℕ) (d : A) where
           let p = ih e in
           record { at = suc (p .at); within = omega (arith, p .within); here = p .here }
 
+  -- what holds of the whole list holds of each part
   pub every-at : (p : ℕ → Bool) (ss : List A) (i : ℕ) → i < length ss → every p (gathered f ss) ≡ true → every p (f (getD ss i d)) ≡ true
   every-at p [] i l e = absurd (omega arith)
   every-at p (s ∷ ss) zero l e = and-parts (every p (f s)) (every p (gathered f ss)) (sym (every-append p (f s) (gathered f ss)) ∙ e) .0
@@ -92,6 +93,7 @@ module _ {A : Type 0} (f : A → List ℕ) (d : A) where
           absurd (both-ways (member k (gathered f ss′)) out (in-gathered ss′ (p .at) k (q .0) (q .1)))
       go (inr e) = e
 
+-- a walk passes at most as many rows as are unmarked
 fresh-few : (n : ℕ) (marks : List Bool) (ks : List ℕ) → n ≤ length marks → fresh n marks ks ≡ true → length ks ≤ unmarked marks
 fresh-few n marks [] l f = omega arith
 fresh-few n marks (k ∷ ks) l f =

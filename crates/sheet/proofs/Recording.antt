@@ -21,6 +21,7 @@ use Rattle.sheet.proofs.Planting.{set-made}
 abbrev madeListed : NodeRow → Bool
 madeListed n = isListed (entryOf (n .made))
 
+-- a write that keeps what made a row keeps the records
 set-listed : (rows : List NodeRow) (i : ℕ) (r : NodeRow) → r .made ≡ row rows i .made → every madeListed (set rows i r) ≡ every madeListed rows
 set-listed [] i r e = refl
 set-listed (x ∷ xs) zero r e = ap (λ m. isListed (entryOf m) && every madeListed xs) e
@@ -40,6 +41,7 @@ attached-records rows p a z h = go (eqb (row rows p .last) 4294967295)
         let new : NodeRow = withNext a (row rows (row rows p .last)) in
         set-records (set rows (row rows p .last) new) p (withLast z (row rows p)) (sym (set-made rows (row rows p .last) new p refl)) (set-records rows (row rows p .last) new refl h)
 
+-- one row more at the end
 push-records : (rows : List NodeRow) (x : NodeRow) → recordsListed rows → madeListed x ≡ true → recordsListed (rows ++ x ∷ [])
 push-records [] x h l = absurd h
 push-records (r ∷ rs) x h l = (h .0, every-append madeListed rs (x ∷ []) ∙ and-from (every madeListed rs) (madeListed x && true) (h .1) (and-from (madeListed x) true l refl))

@@ -64,6 +64,7 @@ module _ (m : Memory) (σ : State) (h : Holds m σ) where
   row-put k l = getD-take (m .scopes .count) (m .scopes .rows) k noScope l
 
   module _ (long : Long m) where
+    -- room for each kind of entry
     put-room : (p : Put) → putFull (σ .rows) (statuses (σ .scopes)) p ≡ false → PutRoom m p
     put-room (put.Type t) f = room-from (m .types) 256 _ (sym (ap (λ w. length (w .types)) (h .rows)) ∙ items-many (m .types) (h .counts .types)) f (long .types) (omega arith)
     put-room (put.Identifier i) f = room-from (m .identifiers) 1024 _ (sym (ap (λ w. length (w .identifiers)) (h .rows)) ∙ items-many (m .identifiers) (h .counts .identifiers)) f (long .identifiers) (omega arith)

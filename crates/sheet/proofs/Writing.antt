@@ -56,6 +56,7 @@ use Rattle.sheet.proofs.Rooms.{scopes-many, declarations-many, dependencies-ma
 use Rattle.sheet.proofs.Recording.{appended-records}
 use Rattle.sheet.proofs.Forming.{formed-after}
 
+-- the same of rows and Scopes that are equal
 chained-for : (S S′ : List ScopeRow) (D D′ : List DeclarationRow) (ss ss′ : List Scope) → S′ ≡ S → D′ ≡ D → ss′ ≡ ss → Chained S D ss → Chained S′ D′ ss′
 chained-for S S′ D D′ ss ss′ e f g c =
     subst (λ (x : List ScopeRow). Chained x D′ ss′) (sym e) (subst (λ (x : List DeclarationRow). Chained S x ss′) (sym f) (subst (λ (x : List Scope). Chained S D x) (sym g) c))
@@ -65,6 +66,7 @@ linked-same : (xs : List DeclarationRow) (k n : ℕ) → map declarationOf (set 
 linked-same xs k n =
     map-set declarationOf xs k (followedBy n (getD xs k noDeclaration)) ∙ sym (map-set declarationOf xs k (getD xs k noDeclaration)) ∙ ap (λ l. map declarationOf l) (set-getD xs k noDeclaration)
 
+-- a Scope that is not in use is unused
 unused-from : (s : Status) → not (isUnused s) ≡ false → s ≡ Unused
 unused-from Unused h = refl
 unused-from Stood h = absurd (true≢false h)
@@ -82,6 +84,7 @@ module _ (m : Memory) (σ : State) (h : Holds m σ) where
         innermost-is = h .planted .innermost-is;
       }
 
+  -- a new Scope
   scope-holds : (a z : ℕ) → Room (m .scopes) → WellFormed (after σ (entry.Put (put.Scope a z))) → Holds (putIn m (put.Scope a z)) (after σ (entry.Put (put.Scope a z)))
   scope-holds a z r w =
       let S = items (m .scopes) in
@@ -111,6 +114,7 @@ module _ (m : Memory) (σ : State) (h : Holds m σ) where
         formed = f;
       }
 
+  -- a new row, a value, a part of the Scope put last, a node, and Close
   put-holds : (p : Put) → PutRoom m p → WellFormed (after σ (entry.Put p)) → Holds (putIn m p) (after σ (entry.Put p))
   put-holds (put.Type x) r w =
       plain-holds (putIn m (put.Type x)) _ (let c = h .counts in let n = pushed-within (m .types) x (r .left) in search needs)
@@ -375,6 +379,7 @@ module _ (m : Memory) (σ : State) (h : Holds m σ) where
         formed = w;
       }
 
+  -- any entry, where the sheet afterwards is well formed
   wrote-from : (made : Record) (e : Entry) (m′ : Memory) → entryOf made ≡ Some e → EntryRoom m e → Accepted (σ .rows) (statuses (σ .scopes)) (topOf σ) (σ .opened) e → WellFormed (after σ e)
       → Wrote m made e m′ → Holds m′ (after σ e)
   wrote-from made (entry.Put p) m′ is r a w t = subst (λ (y : Memory). Holds y (after σ (entry.Put p))) (sym t) (put-holds p r w)
@@ -384,6 +389,7 @@ module _ (m : Memory) (σ : State) (h : Holds m σ) where
   wrote-from made entry.Close m′ is r a w t = subst (λ (y : Memory). Holds y (after σ entry.Close)) (sym t) (close-holds (a .placed-is) w)
   wrote-from made entry.List m′ is r a w t = subst (λ (y : Memory). Holds y (after σ entry.List)) (sym t) h
 
+  -- any entry that is not refused
   pub wrote-holds : (made : Record) (e : Entry) (m′ : Memory) → entryOf made ≡ Some e → refusedOf σ e ≡ None → EntryRoom m e → Wrote m made e m′ → Holds m′ (after σ e)
   wrote-holds made e m′ is ok r t =
       wrote-from made e m′ is r (accepted (σ .rows) (statuses (σ .scopes)) (topOf σ) (σ .opened) e ok) (formed-after σ made e (h .formed) is ok) t
