@@ -3,7 +3,7 @@ use mathlib.Core.Path.{_≡_, refl, sym, ap, _∙_}
 use mathlib.Core.Bool.{Bool, true, false, cond}
 use mathlib.Core.Logic.{_≢_}
 use mathlib.Core.List.{List, [], _∷_, _++_}
-use Prim.Native.Nat.{ℕ, zero, suc, _+_, _<_}
+use Prim.Native.Nat.{ℕ, _+_, _<_}
 use native.Mathlib.Omega.{arith}
 use lib.ListN.{length, set, take, drop, length-set}
 use lib.Dec.{eqb}
@@ -12,17 +12,12 @@ use Rattle.std.proofs.shelf.Lists.{getD-take, take-more-set, drop-set-lt, lengt
 use Rattle.block.specs.declared.record.Record.{Record}
 use Rattle.sheet.specs.declared.rows.NodeRow.{NodeRow}
 use Rattle.sheet.specs.Links.{row, noNode}
+use Rattle.sheet.proofs.Storing.{take-of-set}
 use Rattle.sheet.specs.Appended.{withEnds, withLast, withNext, attached, fresh, appended}
 
 -- a link is none, or leads below n
 abbrev pub Below : ℕ → ℕ → Type 0
 Below n link = (link ≡ 4294967295 → ⊥) → link < n
-
-take-set : (m : ℕ) (l : List NodeRow) (i : ℕ) (r : NodeRow) → take m (set l i r) ≡ set (take m l) i r
-take-set zero l i r = refl
-take-set (suc m) [] i r = refl
-take-set (suc m) (x ∷ l) zero r = refl
-take-set (suc m) (x ∷ l) (suc i) r = ap (λ t. x ∷ t) (take-set m l i r)
 
 pub attached-length : (rows : List NodeRow) (p a z : ℕ) → length (attached rows p a z) ≡ length rows
 attached-length rows p a z = go (eqb (row rows p .last) 4294967295)
@@ -37,12 +32,12 @@ attached-take m rows p a z h k = rw (getD-take m rows p noNode h) (go (eqb (row 
     go : (b : Bool) → eqb (row rows p .last) 4294967295 ≡ b
       → take m (cond b (set rows p (withEnds a z (row rows p))) (set (set rows (row rows p .last) (withNext a (row rows (row rows p .last)))) p (withLast z (row rows p))))
         ≡ cond b (set (take m rows) p (withEnds a z (row rows p))) (set (set (take m rows) (row rows p .last) (withNext a (row (take m rows) (row rows p .last)))) p (withLast z (row rows p)))
-    go true e = take-set m rows p (withEnds a z (row rows p))
+    go true e = take-of-set m rows p (withEnds a z (row rows p))
     go false e =
         let l : row rows p .last < m = k (eqb-false (row rows p .last) 4294967295 e) in
         let new : NodeRow = withNext a (row rows (row rows p .last)) in
         rw (getD-take m rows (row rows p .last) noNode l)
-          (take-set m (set rows (row rows p .last) new) p (withLast z (row rows p)) ∙ ap (λ t. set t p (withLast z (row rows p))) (take-set m rows (row rows p .last) new))
+          (take-of-set m (set rows (row rows p .last) new) p (withLast z (row rows p)) ∙ ap (λ t. set t p (withLast z (row rows p))) (take-of-set m rows (row rows p .last) new))
 
 pub attached-drop : (m : ℕ) (rows : List NodeRow) (p a z : ℕ) → p < m → Below m (row rows p .last) → drop m (attached rows p a z) ≡ drop m rows
 attached-drop m rows p a z h k = go (eqb (row rows p .last) 4294967295) refl

@@ -1,4 +1,5 @@
 pub mod Frames
+pub mod Storing
 pub mod Appending
 pub mod Joining
 pub mod Growing
@@ -19,3 +20,12 @@ pub mod Fresh
 pub mod NodeRowing
 pub mod Sounding
 pub mod Refusing
+pub mod Ending
+pub mod Accepting
+pub mod Parting
+pub mod Holding
+pub mod Declaring
+pub mod Rooms
+pub mod Keeping
+pub mod Recording
+pub mod Writing

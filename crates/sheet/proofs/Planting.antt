@@ -29,7 +29,7 @@ use Rattle.screen.proofs.Grown.{grow-cnt, grow-innermost, grow-innermost-more}
 use Rattle.screen.proofs.StandingGrown.{isScope, standing-once, standing-add, standing-open, standing-scope}
 
 -- a write that keeps what made a row keeps what the nodes are
-set-made : (rows : List NodeRow) (i : ℕ) (r : NodeRow) (k : ℕ) → r .made ≡ row rows i .made → row (set rows i r) k .made ≡ row rows k .made
+pub set-made : (rows : List NodeRow) (i : ℕ) (r : NodeRow) (k : ℕ) → r .made ≡ row rows i .made → row (set rows i r) k .made ≡ row rows k .made
 set-made [] i r k e = refl
 set-made (x ∷ xs) zero r zero e = e
 set-made (x ∷ xs) zero r (suc k) e = refl

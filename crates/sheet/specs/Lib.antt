@@ -3,6 +3,7 @@ pub mod Links
 pub mod Planted
 pub mod Chains
 pub mod Holds
+pub mod Ends
 pub mod Written
 pub mod Room
 pub mod Appended

@@ -1,8 +1,11 @@
 -- What an accepted entry writes into the memory.
-use mathlib.Core.Bool.{Bool, true, false, cond}
+use mathlib.Core.Path.{_≡_}
+use mathlib.Core.Bool.{cond}
 use mathlib.Core.List.{List}
 use Prim.Native.Nat.{ℕ, _+_, _-_}
-use lib.ListN.{getD, set}
+use lib.ListN.{length, getD, set, drop}
+use lib.Dec.{eqb}
+use Rattle.block.specs.declared.record.Record.{Record}
 use Rattle.screen.specs.declared.rows.TypeRow.{TypeRow}
 use Rattle.screen.specs.declared.rows.IdentifierRow.{IdentifierRow}
 use Rattle.screen.specs.declared.rows.PathRow.{PathRow}
@@ -17,8 +20,15 @@ use Rattle.screen.specs.declared.entry.Put.{Put}
 use Rattle.screen.specs.declared.entry.Put.the-variants as put
 use Rattle.screen.specs.declared.entry.Part.{Part}
 use Rattle.screen.specs.declared.entry.Part.the-variants as part
-use Rattle.sheet.specs.Tables.{Stored, Memory}
-use Rattle.sheet.specs.Chains.{noScope}
+use Rattle.screen.specs.declared.node.Node.{Node}
+use Rattle.screen.specs.declared.node.Node.the-variants as node
+use Rattle.screen.specs.declared.entry.Entry.{Entry}
+use Rattle.screen.specs.declared.entry.Entry.the-variants as entry
+use Rattle.sheet.specs.Tables.{Stored, Memory, items}
+use Rattle.sheet.specs.Chains.{noScope, noDeclaration}
+use Rattle.sheet.specs.Links.{row}
+use Rattle.sheet.specs.Appended.{appended}
+use Rattle.sheet.specs.Ends.{endOf}
 
 -- one row more
 abbrev pub pushed : {T : Type 0} → Stored T → T → Stored T
@@ -91,3 +101,67 @@ changeScope t k f = changed t k (f (getD (t .rows) k noScope))
 -- a declaration's row with another next
 abbrev pub followedBy : ℕ → DeclarationRow → DeclarationRow
 followedBy n d = record { key = d .key; declared = d .declared; next = n }
+
+abbrev pub changeDeclaration : Stored DeclarationRow → ℕ → (DeclarationRow → DeclarationRow) → Stored DeclarationRow
+changeDeclaration t k f = changed t k (f (getD (t .rows) k noDeclaration))
+
+-- a new declaration's row, the last of its list
+abbrev pub newDeclaration : ℕ → ℕ → DeclarationRow
+newDeclaration k d = record { key = k; declared = d; next = 4294967295 }
+
+-- the number of the Scope put last, and the first row of its declarations
+abbrev pub lastScope : Memory → ℕ
+lastScope m = m .scopes .count - 1
+
+abbrev pub firstDeclared : Memory → ℕ
+firstDeclared m = getD (m .scopes .rows) (lastScope m) noScope .first
+
+-- a new declaration is the first of the Scope put last, or follows the last one there
+abbrev pub declaredFirst : Memory → ℕ → ℕ → Memory
+declaredFirst m k d = withScopes (withDeclarations m (pushed (m .declarations) (newDeclaration k d))) (changeScope (m .scopes) (lastScope m) (startingAt (m .declarations .count)))
+
+abbrev pub declaredNext : Memory → ℕ → ℕ → Memory
+declaredNext m k d = withDeclarations m (changeDeclaration (pushed (m .declarations) (newDeclaration k d)) (endOf (items (m .declarations)) (firstDeclared m)) (followedBy (m .declarations .count)))
+
+-- a part of the Scope put last
+abbrev pub partIn : Memory → Part → Memory
+partIn m (part.Dependency d) = withDependencies m (pushed (m .dependencies) d)
+partIn m (part.Declaration k d) = cond (eqb (firstDeclared m) 4294967295) (declaredFirst m k d) (declaredNext m k d)
+partIn m (part.Reassignment i) = withScopes m (changeScope (m .scopes) (lastScope m) reassigning)
+
+-- a new value
+abbrev pub valueIn : Memory → ValueRow → Memory
+valueIn m v = withValues m (pushed (m .values) v)
+
+-- the node rows with a new last child of p
+pub record NodePut (old : Stored NodeRow) (p : ℕ) (made : Record) (new : Stored NodeRow) : Type 0 where
+  pub rows : items new ≡ appended (items old) p made
+  pub count : new .count ≡ old .count + 1
+  pub rest : drop (old .count + 1) (new .rows) ≡ drop (old .count + 1) (old .rows)
+  pub long : length (new .rows) ≡ length (old .rows)
+
+-- a new node is the innermost unless Add made it, and a Scope that is opened stands
+abbrev pub nodeIn : Memory → Stored NodeRow → Node → Memory
+nodeIn m ns node.Body = withInnermost (withNodes m ns) (m .nodes .count)
+nodeIn m ns (node.Add o v t) = withNodes m ns
+nodeIn m ns (node.Terminal k o v) = withInnermost (withNodes m ns) (m .nodes .count)
+nodeIn m ns node.Arm = withInnermost (withNodes m ns) (m .nodes .count)
+nodeIn m ns (node.Scope k) = withInnermost (withScopes (withNodes m ns) (changeScope (m .scopes) k standing)) (m .nodes .count)
+nodeIn m ns (node.Pruned k) = withInnermost (withNodes m ns) (m .nodes .count)
+
+pub record NodeIn (m : Memory) (made : Record) (x : Node) (after : Memory) : Type 0 where
+  pub put : NodePut (m .nodes) (m .innermost) made (after .nodes)
+  pub is : after ≡ nodeIn m (after .nodes) x
+
+-- the innermost open node closed
+abbrev pub closedIn : Memory → Memory
+closedIn m = withInnermost m (row (m .nodes .rows) (m .innermost) .parent)
+
+-- the memory before and after an entry's write
+abbrev pub Wrote : Memory → Record → Entry → Memory → Type 0
+Wrote m made (entry.Put p) after = after ≡ putIn m p
+Wrote m made (entry.Part p) after = after ≡ partIn m p
+Wrote m made (entry.Value v) after = after ≡ valueIn m v
+Wrote m made (entry.Node x) after = NodeIn m made x after
+Wrote m made entry.Close after = after ≡ closedIn m
+Wrote m made entry.List after = after ≡ m
