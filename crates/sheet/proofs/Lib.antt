@@ -29,3 +29,4 @@ pub mod Rooms
 pub mod Keeping
 pub mod Recording
 pub mod Writing
+pub mod Taking
