@@ -30,3 +30,4 @@ pub mod Keeping
 pub mod Recording
 pub mod Writing
 pub mod Taking
+pub mod Starting

@@ -25,6 +25,7 @@ use Rattle.screen.specs.declared.node.Node.the-variants as node
 use Rattle.screen.specs.declared.entry.Entry.{Entry}
 use Rattle.screen.specs.declared.entry.Entry.the-variants as entry
 use Rattle.sheet.specs.Tables.{Stored, Memory, items}
+use Rattle.sheet.specs.Links.{noRecord}
 use Rattle.sheet.specs.Chains.{noScope, noDeclaration}
 use Rattle.sheet.specs.Links.{row}
 use Rattle.sheet.specs.Appended.{appended}
@@ -165,3 +166,28 @@ Wrote m made (entry.Value v) after = after ≡ valueIn m v
 Wrote m made (entry.Node x) after = NodeIn m made x after
 Wrote m made entry.Close after = after ≡ closedIn m
 Wrote m made entry.List after = after ≡ m
+
+-- a table with no row put
+abbrev pub emptied : {T : Type 0} → Stored T → Stored T
+emptied t = record { rows = t .rows; count = 0 }
+
+-- the body's row in a new sheet
+abbrev pub bodyRow : NodeRow
+bodyRow = record { made = noRecord; parent = 4294967295; first = 4294967295; last = 4294967295; next = 4294967295 }
+
+-- the memory of a new sheet: no row, and the body alone
+abbrev pub cleared : Memory → Memory
+cleared m =
+    record {
+      types = emptied (m .types);
+      identifiers = emptied (m .identifiers);
+      paths = emptied (m .paths);
+      scopes = emptied (m .scopes);
+      dependencies = emptied (m .dependencies);
+      declarations = emptied (m .declarations);
+      reads = emptied (m .reads);
+      values = emptied (m .values);
+      shapes = emptied (m .shapes);
+      nodes = record { rows = set (m .nodes .rows) 0 bodyRow; count = 1 };
+      innermost = 0;
+    }

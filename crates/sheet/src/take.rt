@@ -2,22 +2,28 @@
 
 ghost use mathlib.Core.Path.{_≡_};
 ghost use mathlib.Core.List.{_++_};
+ghost use Prim.Native.Nat.{_<_};
 ghost use lib.ListN.{length, drop};
+ghost use Rattle.std.specs.declared.result.Result.the-variants.{Ok, Err};
+ghost use Rattle.screen.specs.declared.answer.Refusal.the-variants.{Short, Unsound};
 ghost use Rattle.std.specs.Orderings.{Decides};
 ghost use Rattle.block.specs.Fields.{fieldsOf};
-ghost use Rattle.screen.specs.State.{State};
+ghost use Rattle.screen.specs.State.{State, new};
 ghost use Rattle.screen.specs.Step.{listing};
 ghost use Rattle.sheet.specs.Tables.{memory, workMemory};
 ghost use Rattle.sheet.specs.Holds.{Holds, Sound};
-ghost use Rattle.sheet.specs.Kept.{Long, WorkLong, AllLong};
+ghost use Rattle.sheet.specs.Kept.{Long, WorkLong, AllLong, RestKept};
+ghost use Rattle.sheet.specs.Written.{cleared};
 ghost use Rattle.sheet.specs.Takes.{Takes, Keeps, withLines};
 
 use block::Record;
 use screen::Answer;
+use screen::NONE;
 use screen::Entry;
 use screen::Refusal;
 
 use crate::list::list;
+use crate::rows::NodeRow;
 use crate::sheet::Sheet;
 use crate::sheet::Work;
 
@@ -79,5 +85,60 @@ impl Sheet<'_> {
         }
         self.write(made, entry);
         Ok(Answer::Accepted)
+    }
+
+    /// Takes one record on any tables at all: they are examined first.
+    pub fn take(&mut self, work: &mut Work<'_>, record: [u8; 16]) -> Result<Answer, Refusal>
+        ensures short { λ r. ⌜ ((AllLong (memory (now (self .entry))) (workMemory (now (work .entry))) → ⊥) → r ≡ Err Short) ⌝ }
+        ensures unsound { λ r. ⌜ (AllLong (memory (now (self .entry))) (workMemory (now (work .entry))) → (Sound (memory (now (self .entry))) → ⊥) → r ≡ Err Unsound) ⌝ }
+        ensures takes { λ r. ⌜ (AllLong (memory (now (self .entry))) (workMemory (now (work .entry))) → (σ : State) → Holds (memory (now (self .entry))) σ
+          → Takes σ (fieldsOf «record») (memory (now (self .exit))) (workMemory (now (work .entry))) (workMemory (now (work .exit))) r) ⌝ }
+        ensures keeps { λ r. ⌜ Keeps (memory (now (self .entry))) (memory (now (self .exit))) (workMemory (now (work .entry))) (workMemory (now (work .exit))) r ⌝ }
+    {
+        if !is_long(self) {
+            return Err(Refusal::Short);
+        }
+        if !is_work_long(work) {
+            return Err(Refusal::Short);
+        }
+        if !self.is_sound() {
+            return Err(Refusal::Unsound);
+        }
+        self.take_sound(work, record)
+    }
+
+    /// Makes a new sheet of memory that is long enough: no row, and the body alone.
+    pub fn start(&mut self, work: &Work<'_>) -> Result<(), Refusal>
+        ensures short { λ r. ⌜ ((AllLong (memory (now (self .entry))) (workMemory (now (work .entry))) → ⊥) → (r ≡ Err Short) × (memory (now (self .exit)) ≡ memory (now (self .entry)))) ⌝ }
+        ensures new { λ r. ⌜ (AllLong (memory (now (self .entry))) (workMemory (now (work .entry))) → (r ≡ Ok tt) × Holds (memory (now (self .exit))) new × RestKept (memory (now (self .entry))) (memory (now (self .exit)))) ⌝ }
+    {
+        if !is_long(self) {
+            return Err(Refusal::Short);
+        }
+        if !is_work_long(work) {
+            return Err(Refusal::Short);
+        }
+        self.clear();
+        Ok(())
+    }
+
+    /// Counts no row but the body.
+    fn clear(&mut self)
+        requires { ⌜ 0 < length (memory (now self) .nodes .rows) ⌝ }
+        ensures { λ _. ⌜ memory (now (self .exit)) ≡ cleared (memory (now (self .entry))) ⌝ }
+    {
+        self.types.count = 0;
+        self.identifiers.count = 0;
+        self.paths.count = 0;
+        self.scopes.count = 0;
+        self.dependencies.count = 0;
+        self.declarations.count = 0;
+        self.reads.count = 0;
+        self.values.count = 0;
+        self.shapes.count = 0;
+        let made = Record { tag: 0, p: 0, q: 0, r: 0, s: 0, t: 0 };
+        self.nodes.rows[0] = NodeRow { made, parent: NONE, first: NONE, last: NONE, next: NONE };
+        self.nodes.count = 1;
+        self.innermost = 0;
     }
 }
