@@ -30,6 +30,13 @@ countIn bytes = u16At bytes 500
 abbrev pub checkIn : List ℕ → ℕ
 checkIn bytes = u32At bytes 508
 
+-- the numbers of the faults
+abbrev pub faultNumber : Fault → ℕ
+faultNumber Short = 1
+faultNumber Check = 2
+faultNumber Number = 3
+faultNumber Count = 4
+
 -- what is wrong with a whole block at a place: the first of three faults, or none
 abbrev pub faultIn : List ℕ → ℕ → Option Fault
 faultIn block place =

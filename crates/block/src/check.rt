@@ -7,7 +7,7 @@ ghost use lib.Dec.{eqb};
 ghost use Rattle.std.specs.Results.{Cases};
 ghost use Rattle.std.specs.Options.{Cases as BySome};
 ghost use Rattle.std.specs.declared.option.Option.the-variants.{Some, None};
-ghost use Rattle.block.specs.Block.{checkOf, faultIn, faultOf};
+ghost use Rattle.block.specs.Block.{checkOf, faultIn, faultOf, faultNumber};
 ghost use Rattle.block.specs.Left.{left, recordsIn, Sealed};
 
 use crate::bytes::u16_at;
@@ -31,6 +31,20 @@ pub enum Fault {
     Number,
     /// The count is above 31.
     Count,
+}
+
+impl Fault {
+    /// The number that a host and a technician know it by.
+    pub fn number(self) -> u8
+        ensures { λ r. ⌜ r ≡ faultNumber self ⌝ }
+    {
+        match self {
+            Fault::Short => 1,
+            Fault::Check => 2,
+            Fault::Number => 3,
+            Fault::Count => 4,
+        }
+    }
 }
 
 /// The bytes where a block should begin, not looked at yet.

@@ -25,6 +25,7 @@ use Rattle.sheet.specs.Links.{Links}
 use Rattle.sheet.specs.Listed.{endsOf}
 use Rattle.sheet.specs.Chains.{ScopesHeld}
 use Rattle.sheet.specs.Holds.{Holds}
+use Rattle.sheet.specs.Kept.{Long, RestKept}
 use Rattle.sheet.specs.Takes.{Takes}
 use Rattle.sheet.proofs.Planting.{planted-once}
 use Rattle.sheet.proofs.Listing.{named-by-rows}
@@ -78,4 +79,20 @@ takes-written σ x e new w h r n k =
       answer = sym (ap (λ (o : Outcome). o .answer) (step-taken σ x e h r) ∙ ap Ok (answer-plain σ e n));
       holds = subst (λ (o : Outcome). Holds new (o .sheet)) (sym (step-taken σ x e h r)) k;
       lines = refl;
+    }
+
+-- a table that is as long as it was is long enough still
+pub long-rest : (old new : Memory) → RestKept old new → Long old → Long new
+long-rest old new r l =
+    record {
+      types = omega (arith, r .types .length-is, l .types);
+      identifiers = omega (arith, r .identifiers .length-is, l .identifiers);
+      paths = omega (arith, r .paths .length-is, l .paths);
+      scopes = omega (arith, r .scopes .length-is, l .scopes);
+      dependencies = omega (arith, r .dependencies .length-is, l .dependencies);
+      declarations = omega (arith, r .declarations .length-is, l .declarations);
+      reads = omega (arith, r .reads .length-is, l .reads);
+      values = omega (arith, r .values .length-is, l .values);
+      shapes = omega (arith, r .shapes .length-is, l .shapes);
+      nodes = omega (arith, r .nodes .length-is, l .nodes);
     }

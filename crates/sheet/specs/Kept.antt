@@ -4,6 +4,7 @@ use mathlib.Core.List.{List}
 use Prim.Native.Nat.{ℕ, _≤_}
 use lib.ListN.{length, drop}
 use Rattle.sheet.specs.Tables.{Stored, Memory, WorkMemory}
+use Rattle.sheet.specs.Holds.{Sound}
 
 -- each table is as long as its limit
 pub record Long (m : Memory) : Type 0 where
@@ -48,3 +49,8 @@ pub record WorkLong (w : WorkMemory) : Type 0 where
 pub record AllLong (m : Memory) (w : WorkMemory) : Type 0 where
   pub sheet : Long m
   pub work : WorkLong w
+
+-- tables that hold a sheet and are long enough, so that a record can be taken with no examination
+pub record Ready (m : Memory) (w : WorkMemory) : Type 0 where
+  pub sound : Sound m
+  pub long : AllLong m w

@@ -6,13 +6,15 @@ ghost use Prim.Native.Nat.{_<_};
 ghost use lib.ListN.{length, drop};
 ghost use Rattle.std.specs.declared.result.Result.the-variants.{Ok, Err};
 ghost use Rattle.screen.specs.declared.answer.Refusal.the-variants.{Short, Unsound};
+ghost use mathlib.Core.Bool.{true};
 ghost use Rattle.std.specs.Orderings.{Decides};
+ghost use Rattle.std.specs.Results.{isOk};
 ghost use Rattle.block.specs.Fields.{fieldsOf};
 ghost use Rattle.screen.specs.State.{State, new};
 ghost use Rattle.screen.specs.Step.{listing};
 ghost use Rattle.sheet.specs.Tables.{memory, workMemory};
 ghost use Rattle.sheet.specs.Holds.{Holds, Sound};
-ghost use Rattle.sheet.specs.Kept.{Long, WorkLong, AllLong, RestKept};
+ghost use Rattle.sheet.specs.Kept.{Long, WorkLong, AllLong, RestKept, Ready};
 ghost use Rattle.sheet.specs.Written.{cleared};
 ghost use Rattle.sheet.specs.Takes.{Takes, Keeps, withLines};
 
@@ -59,7 +61,8 @@ impl Sheet<'_> {
     fn list(&self, work: &mut Work<'_>) -> u32
         requires sound { ⌜ Sound (memory (now self)) ⌝ }
         requires long { ⌜ WorkLong (workMemory (now work)) ⌝ }
-        ensures { λ r. ⌜ ((σ : State) → Holds (memory (now (self .entry))) σ
+        ensures long { λ _. ⌜ WorkLong (workMemory (now (work .exit))) ⌝ }
+        ensures lines { λ r. ⌜ ((σ : State) → Holds (memory (now (self .entry))) σ
           → (r ≡ length (listing σ)) × (workMemory (now (work .exit)) ≡ withLines (workMemory (now (work .entry))) (listing σ ++ drop r (workMemory (now (work .entry)) .lines)))) ⌝ }
     {
         list(self.nodes.put(), self.scopes.put(), work.lines)
@@ -67,8 +70,8 @@ impl Sheet<'_> {
 
     /// Takes one record on tables that are known to be sound, so that they need no examination.
     pub fn take_sound(&mut self, work: &mut Work<'_>, record: [u8; 16]) -> Result<Answer, Refusal>
-        requires sound { ⌜ Sound (memory (now self)) ⌝ }
-        requires long { ⌜ AllLong (memory (now self)) (workMemory (now work)) ⌝ }
+        requires { ⌜ Ready (memory (now self)) (workMemory (now work)) ⌝ }
+        ensures ready { λ _. ⌜ Ready (memory (now (self .exit))) (workMemory (now (work .exit))) ⌝ }
         ensures takes { λ r. ⌜ ((σ : State) → Holds (memory (now (self .entry))) σ
           → Takes σ (fieldsOf «record») (memory (now (self .exit))) (workMemory (now (work .entry))) (workMemory (now (work .exit))) r) ⌝ }
         ensures keeps { λ r. ⌜ Keeps (memory (now (self .entry))) (memory (now (self .exit))) (workMemory (now (work .entry))) (workMemory (now (work .exit))) r ⌝ }
@@ -111,6 +114,7 @@ impl Sheet<'_> {
     pub fn start(&mut self, work: &Work<'_>) -> Result<(), Refusal>
         ensures short { λ r. ⌜ ((AllLong (memory (now (self .entry))) (workMemory (now (work .entry))) → ⊥) → (r ≡ Err Short) × (memory (now (self .exit)) ≡ memory (now (self .entry)))) ⌝ }
         ensures new { λ r. ⌜ (AllLong (memory (now (self .entry))) (workMemory (now (work .entry))) → (r ≡ Ok tt) × Holds (memory (now (self .exit))) new × RestKept (memory (now (self .entry))) (memory (now (self .exit)))) ⌝ }
+        ensures ready { λ r. ⌜ (isOk r ≡ true → Ready (memory (now (self .exit))) (workMemory (now (work .entry)))) ⌝ }
     {
         if !is_long(self) {
             return Err(Refusal::Short);

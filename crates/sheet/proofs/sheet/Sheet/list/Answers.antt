@@ -27,9 +27,13 @@ list-requires c κs =
     }
 
 pub returns : need.returns
-returns c σ h =
+returns c =
     let m = memory (c .args .self .now) in
-    let links : Links (c .put .result .now) 4294967295 (body (σ .tree)) = subst (λ (xs : List NodeRow). Links xs 4294967295 (body (σ .tree))) (sym (c .put .ensures)) (h .planted .links) in
-    let made = c .list .ensures (σ .tree) links (held-once m σ h) in
-    let lines : linesOf (endsOf (c .put-2 .result .now)) 1 (σ .tree) ≡ listing σ = ap (λ rs. linesOf (endsOf rs) 1 (σ .tree)) (c .put-2 .ensures) ∙ lines-held m σ h in
-    (made .0 ∙ ap length lines, ap (withLines (workMemory (c .args .work .now))) (made .1 ∙ ap (λ ls. ls ++ drop (c .list .result) (c .args .work .now .lines .now)) lines))
+    record {
+      long = record { lines = omega (arith, c .list .kept .lines, c .pre .long .lines); uses = c .pre .long .uses; sources = c .pre .long .sources; targets = c .pre .long .targets; scratch = c .pre .long .scratch };
+      lines = λ σ h.
+          let links : Links (c .put .result .now) 4294967295 (body (σ .tree)) = subst (λ (xs : List NodeRow). Links xs 4294967295 (body (σ .tree))) (sym (c .put .ensures)) (h .planted .links) in
+          let made = c .list .ensures (σ .tree) links (held-once m σ h) in
+          let lines : linesOf (endsOf (c .put-2 .result .now)) 1 (σ .tree) ≡ listing σ = ap (λ rs. linesOf (endsOf rs) 1 (σ .tree)) (c .put-2 .ensures) ∙ lines-held m σ h in
+          (made .0 ∙ ap length lines, ap (withLines (workMemory (c .args .work .now))) (made .1 ∙ ap (λ ls. ls ++ drop (c .list .result) (c .args .work .now .lines .now)) lines));
+    }

@@ -3,9 +3,11 @@ use Prim.Native.Nat.{_<_}
 use native.Mathlib.Omega.{arith}
 use lib.ListN.{length}
 use Rattle.screen.specs.State.{new}
-use Rattle.sheet.specs.Tables.{Memory, memory}
+use Rattle.sheet.specs.Tables.{Memory, memory, workMemory}
 use Rattle.sheet.specs.Holds.{Holds}
-use Rattle.sheet.specs.Kept.{RestKept}
+use Rattle.sheet.specs.Kept.{RestKept, Ready}
+use Rattle.sheet.specs.Written.{cleared}
+use Rattle.sheet.proofs.Taking.{long-rest}
 use Rattle.sheet.proofs.Starting.{holds-new, rest-new}
 use Rattle.sheet.proofs.sheet.Sheet.start.Needs as need
 
@@ -18,4 +20,7 @@ returns c =
     record {
       short = λ n. absurd (n (record { sheet = long; work = work }));
       new = λ _. (refl, subst (λ (x : Memory). Holds x new) (sym (c .clear .ensures)) (holds-new m some), subst (λ (x : Memory). RestKept m x) (sym (c .clear .ensures)) (rest-new m some));
+      ready = λ _.
+          subst (λ (x : Memory). Ready x (workMemory (c .args .work .now))) (sym (c .clear .ensures))
+          (record { sound = (new, holds-new m some); long = record { sheet = long-rest m (cleared m) (rest-new m some) long; work = work } });
     }
