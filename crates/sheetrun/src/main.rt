@@ -5,7 +5,9 @@ mod memory;
 mod run;
 
 use fault::Fault;
+use fault::BadBlockDisplay;
 use fault::FaultDisplay;
+use fault::FaultFromIo;
 use run::run;
 
 fn main(rt: LibcRuntime) -> Result<(), Fault> {

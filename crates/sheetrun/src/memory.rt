@@ -18,6 +18,9 @@ use sheet::Work;
 use std::alloc::AllocError;
 use std::alloc::Global;
 
+use crate::fault::Fault;
+use crate::run::run_on;
+
 /// The rows of every table.
 #[derive(Drop)]
 pub struct Memory {
@@ -62,5 +65,30 @@ impl Memory {
             targets: vec![in heap; 0; 1024]?,
             scratch: vec![in heap; dependency; 1024]?,
         })
+    }
+
+    /// Lends the rows to a sheet, and runs standard input on it.
+    pub fn lend(&mut self, rt: &LibcRuntime) -> Result<(), Fault> {
+        let mut sheet = Sheet {
+            types: Table { rows: self.types.as_mut_slice(), count: 0 },
+            identifiers: Table { rows: self.identifiers.as_mut_slice(), count: 0 },
+            paths: Table { rows: self.paths.as_mut_slice(), count: 0 },
+            scopes: Table { rows: self.scopes.as_mut_slice(), count: 0 },
+            dependencies: Table { rows: self.dependencies.as_mut_slice(), count: 0 },
+            declarations: Table { rows: self.declarations.as_mut_slice(), count: 0 },
+            reads: Table { rows: self.reads.as_mut_slice(), count: 0 },
+            values: Table { rows: self.values.as_mut_slice(), count: 0 },
+            shapes: Table { rows: self.shapes.as_mut_slice(), count: 0 },
+            nodes: Table { rows: self.nodes.as_mut_slice(), count: 0 },
+            innermost: 0,
+        };
+        let mut work = Work {
+            lines: self.lines.as_mut_slice(),
+            uses: self.uses.as_mut_slice(),
+            sources: self.sources.as_mut_slice(),
+            targets: self.targets.as_mut_slice(),
+            scratch: self.scratch.as_mut_slice(),
+        };
+        run_on(rt, &mut sheet, &mut work)
     }
 }

@@ -1,0 +1,7 @@
+use Rattle.sheet.specs.Tables.{memory, workMemory}
+use Rattle.sheet.specs.Kept.{Ready}
+use Rattle.sheetrun.proofs.run.run_records.Given as given
+
+-- the tables hold a sheet
+abbrev pub Inv-loop-at : given.InvT-loop-at
+Inv-loop-at l = Ready (memory (l .sheet)) (workMemory (l .work))
