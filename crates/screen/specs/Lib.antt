@@ -15,3 +15,4 @@ pub mod Lines
 pub mod Step
 pub mod Records
 pub mod WellFormed
+pub mod Rules
