@@ -2,8 +2,7 @@
 
 ghost use mathlib.Core.Path.{_≡_};
 ghost use Rattle.rules.specs.Alike.{bitsAlike};
-ghost use Rattle.rules.specs.Same.{bothWaysSame};
-ghost use Rattle.rules.specs.Lasting.{lastingBuiltIn};
+ghost use Rattle.rules.specs.Meanings.{bothWaysMeaning};
 
 use screen::DependencyRow;
 use screen::IdentifierRow;
@@ -27,10 +26,8 @@ impl Alike for BothWaysRule as BothWaysAlike {
     }
 }
 
-pub impl Rule for BothWaysRule as BothWays {
-    ghost same = { λ _. bothWaysSame };
-
-    ghost lasting = { λ _. lastingBuiltIn };
+pub impl Rule for BothWaysRule as ByBothWays {
+    ghost meaning = { λ _. bothWaysMeaning };
 
     fn same(&self, identifiers: &[IdentifierRow], paths: &[PathRow], a: &[DependencyRow], b: &[DependencyRow]) -> bool {
         is_covered(self, identifiers, paths, a, b) && is_covered(self, identifiers, paths, b, a)

@@ -10,12 +10,14 @@ mod read;
 mod rule;
 mod shapes;
 mod shown;
+#[cfg(test)]
+mod tests;
 
-pub use both_ways::BothWays;
 pub use both_ways::BothWaysRule;
-pub use list::List;
+pub use both_ways::ByBothWays;
+pub use list::ByList;
 pub use list::ListRule;
-pub use own_shapes::Own;
+pub use own_shapes::ByOwnShapes;
 pub use own_shapes::OwnShapes;
 pub use piles::layer_keeps_the_law;
 pub use piles::pile_keeps_the_law;

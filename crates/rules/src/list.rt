@@ -2,8 +2,7 @@
 
 ghost use mathlib.Core.Path.{_≡_};
 ghost use Rattle.rules.specs.Alike.{bitsAlike};
-ghost use Rattle.rules.specs.Same.{listSame};
-ghost use Rattle.rules.specs.Lasting.{lastingBuiltIn};
+ghost use Rattle.rules.specs.Meanings.{listMeaning};
 
 use screen::DependencyRow;
 use screen::IdentifierRow;
@@ -27,10 +26,8 @@ impl Alike for ListRule as ListAlike {
     }
 }
 
-pub impl Rule for ListRule as List {
-    ghost same = { λ _. listSame };
-
-    ghost lasting = { λ _. lastingBuiltIn };
+pub impl Rule for ListRule as ByList {
+    ghost meaning = { λ _. listMeaning };
 
     fn same(&self, identifiers: &[IdentifierRow], paths: &[PathRow], a: &[DependencyRow], b: &[DependencyRow]) -> bool {
         a.len() == b.len() && is_covered(self, identifiers, paths, a, b)

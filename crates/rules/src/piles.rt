@@ -10,11 +10,11 @@ use screen::IdentifierRow;
 use screen::PathRow;
 use screen::ShapeRow;
 
-use crate::both_ways::BothWays;
+use crate::both_ways::ByBothWays;
 use crate::both_ways::BothWaysRule;
-use crate::list::List;
+use crate::list::ByList;
 use crate::list::ListRule;
-use crate::own_shapes::Own;
+use crate::own_shapes::ByOwnShapes;
 use crate::own_shapes::OwnShapes;
 use crate::rule::Rule;
 use crate::rule::same_as_itself;

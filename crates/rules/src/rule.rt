@@ -1,10 +1,9 @@
 //! What any rule is: two questions, their meaning, and one law. Asking changes nothing.
 
 ghost use mathlib.Core.Path.{_≡_};
-ghost use mathlib.Core.Bool.{Bool, true};
+ghost use mathlib.Core.Bool.{true};
 ghost use mathlib.Core.List.{List};
-ghost use Prim.Native.Nat.{ℕ};
-ghost use Rattle.screen.specs.Rules.{Dep, depsOf};
+ghost use Rattle.screen.specs.Rules.{Dep, Meaning, depsOf};
 
 use screen::DependencyRow;
 use screen::IdentifierRow;
@@ -12,20 +11,19 @@ use screen::PathRow;
 
 /// An invalidation rule. `same` and `lasting` answer just what the rule means, always.
 pub trait Rule {
-    ghost same: { Self → List Dep → List Dep → Bool };
+    // What each rule must give: its two answers, and that they keep the law.
+    ghost meaning: { Self → Meaning };
 
-    ghost lasting: { Self → ℕ → ℕ → Bool };
-
-    // What each rule must show: each list is the same as itself.
-    law reflexive: { (s : Self) (l : List Dep) → same s l l ≡ true };
+    // Each list is the same as itself: what code over any rule may use.
+    law reflexive: { (s : Self) (l : List Dep) → meaning s .same l l ≡ true };
 
     /// Whether two dependency lists are the same. Their rows name identifiers and path entries of the two tables.
     fn same(&self, identifiers: &[IdentifierRow], paths: &[PathRow], a: &[DependencyRow], b: &[DependencyRow]) -> bool
-        ensures { λ r. ⌜ r ≡ same (now (self .entry)) (depsOf (now (identifiers .entry)) (now (paths .entry)) (now (a .entry))) (depsOf (now (identifiers .entry)) (now (paths .entry)) (now (b .entry))) ⌝ };
+        ensures { λ r. ⌜ r ≡ meaning (now (self .entry)) .same (depsOf (now (identifiers .entry)) (now (paths .entry)) (now (a .entry))) (depsOf (now (identifiers .entry)) (now (paths .entry)) (now (b .entry))) ⌝ };
 
     /// Whether a type, by its kind and its shape, is lasting.
     fn lasting(&self, kind: u8, shape: u32) -> bool
-        ensures { λ r. ⌜ r ≡ lasting (now (self .entry)) kind shape ⌝ };
+        ensures { λ r. ⌜ r ≡ meaning (now (self .entry)) .lasting kind shape ⌝ };
 }
 
 /// A list against itself: the same, by the law of every rule.

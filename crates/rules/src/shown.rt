@@ -13,9 +13,9 @@ use screen::DependencyRow;
 use screen::IdentifierRow;
 use screen::PathRow;
 
-use crate::both_ways::BothWays;
+use crate::both_ways::ByBothWays;
 use crate::both_ways::BothWaysRule;
-use crate::list::List;
+use crate::list::ByList;
 use crate::list::ListRule;
 use crate::rule::Rule;
 

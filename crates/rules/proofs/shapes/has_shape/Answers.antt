@@ -2,7 +2,7 @@ use mathlib.Core.Path.{_≡_, sym, _∙_}
 use Rattle.std.proofs.shelf.Lists.{at-drop-more, at-drop-all}
 use Rattle.screen.specs.Lists.{member}
 use Rattle.screen.proofs.Members.{member-here, member-next}
-use Rattle.rules.proofs.own_shapes.has_shape.Needs as need
+use Rattle.rules.proofs.shapes.has_shape.Needs as need
 
 pub returns-then-own-shape : need.returns-then-own-shape
 returns-then-own-shape c =

@@ -3,7 +3,7 @@ use mathlib.Core.Bool.{true, false}
 use lib.ListN.{length}
 use Rattle.std.proofs.shelf.Tests.{eq-eqb, ne-eqb}
 use Rattle.rules.proofs.Likes.{list-same}
-use Rattle.rules.proofs.list.List.same.Needs as need
+use Rattle.rules.proofs.list.ByList.same.Needs as need
 
 pub returns-then-a-b : need.returns-then-a-b
 returns-then-a-b c =

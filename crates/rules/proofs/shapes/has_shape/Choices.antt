@@ -1,7 +1,7 @@
 use mathlib.Core.Path.{_≡_}
 use lib.ListN.{drop}
 use Rattle.screen.specs.Lists.{member}
-use Rattle.rules.proofs.own_shapes.has_shape.Given as given
+use Rattle.rules.proofs.shapes.has_shape.Given as given
 
 -- what is left decides
 abbrev pub Inv-loop-own : given.InvT-loop-own
