@@ -4,15 +4,13 @@ use mathlib.Core.Bool.{Bool, true, false, _&&_, _||_}
 use mathlib.Core.List.{List, [], _∷_}
 use Prim.Native.Nat.{ℕ, _+_, _<_, _≤_}
 use native.Mathlib.Omega.{arith}
-use lib.Dec.{eqb}
-use lib.ListN.{length, getD, drop, length-map}
+use lib.ListN.{length, getD, drop}
 use Rattle.std.proofs.shelf.Lists.{drop-more, drop-all, at-drop-more}
 use Rattle.screen.specs.Rules.{Dep, depOf, depsOf}
 use Rattle.screen.specs.declared.rows.IdentifierRow.{IdentifierRow}
 use Rattle.screen.specs.declared.rows.PathRow.{PathRow}
 use Rattle.screen.specs.declared.rows.DependencyRow.{DependencyRow}
-use Rattle.rules.specs.Alike.{bitsAlike, pathsAlike, alike, found, covered}
-use Rattle.rules.specs.Same.{listSame}
+use Rattle.rules.specs.Alike.{pathsAlike, alike, found, covered}
 
 -- rows of zeros, which stand for what is not there
 abbrev pub noPath : PathRow
@@ -35,7 +33,7 @@ module _ (like : PathRow → PathRow → Bool) where
 
   -- the two entries at i, and what follows them
   pub paths-more : (ps qs : List PathRow) (i : ℕ) (b : Bool) → i < length ps → i < length qs → b ≡ like (getD ps i noPath) (getD qs i noPath) →
-    pathsAlike like (drop i ps) (drop i qs) ≡ (b && pathsAlike like (drop (i + 1) ps) (drop (i + 1) qs))
+      pathsAlike like (drop i ps) (drop i qs) ≡ (b && pathsAlike like (drop (i + 1) ps) (drop (i + 1) qs))
   paths-more ps qs i b h k e =
       ap (λ l. pathsAlike like l (drop i qs)) (drop-more ps i noPath h)
       ∙ ap (pathsAlike like (getD ps i noPath ∷ drop (i + 1) ps)) (drop-more qs i noPath k)
@@ -47,19 +45,12 @@ module _ (like : PathRow → PathRow → Bool) where
 
   -- the entry at i of a list that is searched, and what follows it
   pub found-more : (is : List IdentifierRow) (ps : List PathRow) (x : Dep) (ys : List DependencyRow) (i : ℕ) (b : Bool) → i < length ys →
-    b ≡ alike like x (depOf is ps (getD ys i noDependency)) → found like x (depsOf is ps (drop i ys)) ≡ (b || found like x (depsOf is ps (drop (i + 1) ys)))
+      b ≡ alike like x (depOf is ps (getD ys i noDependency)) → found like x (depsOf is ps (drop i ys)) ≡ (b || found like x (depsOf is ps (drop (i + 1) ys)))
   found-more is ps x ys i b h e =
       at-drop-more (λ l. found like x (depsOf is ps l)) ys i noDependency h ∙ ap (λ t. t || found like x (depsOf is ps (drop (i + 1) ys))) (sym e)
 
   -- the entry at i of a list whose entries are looked for, and what follows it
   pub covered-next : (is : List IdentifierRow) (ps : List PathRow) (xs : List DependencyRow) (ys : List Dep) (i : ℕ) (b : Bool) → i < length xs →
-    b ≡ found like (depOf is ps (getD xs i noDependency)) ys → covered like (depsOf is ps (drop i xs)) ys ≡ (b && covered like (depsOf is ps (drop (i + 1) xs)) ys)
+      b ≡ found like (depOf is ps (getD xs i noDependency)) ys → covered like (depsOf is ps (drop i xs)) ys ≡ (b && covered like (depsOf is ps (drop (i + 1) xs)) ys)
   covered-next is ps xs ys i b h e =
       at-drop-more (λ l. covered like (depsOf is ps l) ys) xs i noDependency h ∙ ap (λ t. t && covered like (depsOf is ps (drop (i + 1) xs)) ys) (sym e)
-
--- the length test of the list rule, on the rows
-pub list-same : (is : List IdentifierRow) (ps : List PathRow) (xs ys : List DependencyRow) (b : Bool) → eqb (length xs) (length ys) ≡ b →
-  listSame (depsOf is ps xs) (depsOf is ps ys) ≡ (b && covered bitsAlike (depsOf is ps xs) (depsOf is ps ys))
-list-same is ps xs ys b e =
-    ap (λ t. t && covered bitsAlike (depsOf is ps xs) (depsOf is ps ys))
-    (ap (λ n. eqb n (length (depsOf is ps ys))) (length-map xs (depOf is ps)) ∙ ap (eqb (length xs)) (length-map ys (depOf is ps)) ∙ e)

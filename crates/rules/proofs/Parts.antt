@@ -1,8 +1,8 @@
 -- A part of a table that may end before the part does.
-use mathlib.Core.Path.{_≡_, refl, sym, ap, _∙_}
+use mathlib.Core.Path.{_≡_, sym, ap, _∙_}
 use mathlib.Core.List.{List, []}
 use mathlib.Core.Logic.{⊎-elim}
-use Prim.Native.Nat.{ℕ, _+_, _-_, _<_, _≤_, min}
+use Prim.Native.Nat.{ℕ, _+_, _-_, min}
 use native.Mathlib.Omega.{arith}
 use lib.ListN.{length, take, drop, length-drop}
 use Rattle.std.proofs.shelf.Lists.{take-all, drop-all}
@@ -21,15 +21,15 @@ take-none {A} n = take-all {A = A} n [] (omega arith)
 
 -- `count` rows from `first` on, both cut at the end
 pub part-min : {A : Type 0} (xs : List A) (first count : ℕ) →
-  take (min (min first (length xs) + count) (length xs) - min first (length xs)) (drop (min first (length xs)) xs) ≡ take count (drop first xs)
+    take (min (min first (length xs) + count) (length xs) - min first (length xs)) (drop (min first (length xs)) xs) ≡ take count (drop first xs)
 part-min xs first count =
     ⊎-elim
     (λ h.
-      let e : min first (length xs) ≡ first = omega arith in
-      let r : min (min first (length xs) + count) (length xs) - min first (length xs) ≡ min count (length (drop first xs)) = omega (arith, length-drop first xs) in
-      ap (λ k. take k (drop (min first (length xs)) xs)) r ∙ ap (λ k. take (min count (length (drop first xs))) (drop k xs)) e ∙ take-min count (drop first xs))
+    let e : min first (length xs) ≡ first = omega arith in
+    let r : min (min first (length xs) + count) (length xs) - min first (length xs) ≡ min count (length (drop first xs)) = omega (arith, length-drop first xs) in
+    ap (λ k. take k (drop (min first (length xs)) xs)) r ∙ ap (λ k. take (min count (length (drop first xs))) (drop k xs)) e ∙ take-min count (drop first xs))
     (λ h.
-      let e : min first (length xs) ≡ length xs = omega arith in
-      let r : min (min first (length xs) + count) (length xs) - min first (length xs) ≡ 0 = omega arith in
-      ap (λ k. take k (drop (min first (length xs)) xs)) r ∙ sym (ap (take count) (drop-all first xs h) ∙ take-none count))
+    let e : min first (length xs) ≡ length xs = omega arith in
+    let r : min (min first (length xs) + count) (length xs) - min first (length xs) ≡ 0 = omega arith in
+    ap (λ k. take k (drop (min first (length xs)) xs)) r ∙ sym (ap (take count) (drop-all first xs h) ∙ take-none count))
     (cases-lt first (length xs))

@@ -1,12 +1,11 @@
 -- A repeated entry under each rule, and the order of the two lists.
-use mathlib.Core.Path.{_≡_, refl, sym, ap, _∙_}
+use mathlib.Core.Path.{_≡_, refl, ap, _∙_}
 use mathlib.Core.Bool.{Bool, true, false, _&&_, _||_}
-use mathlib.Core.List.{List, [], _∷_}
+use mathlib.Core.List.{[], _∷_}
 use Rattle.std.proofs.shelf.Tests.{false≢true}
 use Rattle.screen.specs.Rules.{Dep}
 use Rattle.rules.specs.Alike.{bitsAlike, alike, covered}
 use Rattle.rules.specs.Reflexive.{alike-self, bits-self}
-use Rattle.rules.specs.Same.{listSame, bothWaysSame}
 use Rattle.rules.specs.Shown.{RepeatPasses, RepeatSeen, RepeatSeenTurned, Symmetric, NotSymmetric}
 
 -- with x alike to itself, what is left of the tests

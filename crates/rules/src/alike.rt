@@ -5,13 +5,11 @@ ghost use mathlib.Core.Bool.{Bool};
 ghost use Rattle.screen.specs.declared.rows.PathRow.{PathRow};
 ghost use Rattle.screen.specs.Rules.{depOf, depsOf};
 ghost use Rattle.rules.specs.Alike.{pathsAlike, alike, found, covered};
-
+use crate::read::declaration_of;
+use crate::read::path_of;
 use screen::DependencyRow;
 use screen::IdentifierRow;
 use screen::PathRow;
-
-use crate::read::declaration_of;
-use crate::read::path_of;
 
 /// What a rule says of two path entries.
 pub trait Alike {
@@ -37,7 +35,13 @@ fn are_alike_paths<R: Alike>(rule: &R, a: &[PathRow], b: &[PathRow]) -> bool
 }
 
 /// Whether two rows stand for alike entries: one declaration, and alike paths.
-fn are_alike<R: Alike>(rule: &R, identifiers: &[IdentifierRow], paths: &[PathRow], x: DependencyRow, y: DependencyRow) -> bool
+fn are_alike<R: Alike>(
+    rule: &R,
+    identifiers: &[IdentifierRow],
+    paths: &[PathRow],
+    x: DependencyRow,
+    y: DependencyRow,
+) -> bool
     ensures { λ r. ⌜ r ≡ alike (like (now (rule .entry))) (depOf (now (identifiers .entry)) (now (paths .entry)) x) (depOf (now (identifiers .entry)) (now (paths .entry)) y) ⌝ }
 {
     declaration_of(identifiers, x.identifier) == declaration_of(identifiers, y.identifier)
@@ -45,7 +49,13 @@ fn are_alike<R: Alike>(rule: &R, identifiers: &[IdentifierRow], paths: &[PathRow
 }
 
 /// Whether x is alike to one of the list.
-fn is_found<R: Alike>(rule: &R, identifiers: &[IdentifierRow], paths: &[PathRow], x: DependencyRow, list: &[DependencyRow]) -> bool
+fn is_found<R: Alike>(
+    rule: &R,
+    identifiers: &[IdentifierRow],
+    paths: &[PathRow],
+    x: DependencyRow,
+    list: &[DependencyRow],
+) -> bool
     ensures { λ r. ⌜ r ≡ found (like (now (rule .entry))) (depOf (now (identifiers .entry)) (now (paths .entry)) x) (depsOf (now (identifiers .entry)) (now (paths .entry)) (now (list .entry))) ⌝ }
 {
     for y in list {
@@ -57,7 +67,13 @@ fn is_found<R: Alike>(rule: &R, identifiers: &[IdentifierRow], paths: &[PathRow]
 }
 
 /// Whether each entry of the first list is alike to one of the second.
-pub fn is_covered<R: Alike>(rule: &R, identifiers: &[IdentifierRow], paths: &[PathRow], a: &[DependencyRow], b: &[DependencyRow]) -> bool
+pub fn is_covered<R: Alike>(
+    rule: &R,
+    identifiers: &[IdentifierRow],
+    paths: &[PathRow],
+    a: &[DependencyRow],
+    b: &[DependencyRow],
+) -> bool
     ensures { λ r. ⌜ r ≡ covered (like (now (rule .entry))) (depsOf (now (identifiers .entry)) (now (paths .entry)) (now (a .entry))) (depsOf (now (identifiers .entry)) (now (paths .entry)) (now (b .entry))) ⌝ }
 {
     for x in a {

@@ -1,17 +1,14 @@
 //! The both-ways rule: each entry of either list is alike to one of the other, however often it stands there.
 
-ghost use mathlib.Core.Path.{_≡_};
 ghost use Rattle.rules.specs.Alike.{bitsAlike};
 ghost use Rattle.rules.specs.Meanings.{bothWaysMeaning};
-
-use screen::DependencyRow;
-use screen::IdentifierRow;
-use screen::PathRow;
-
 use crate::alike::Alike;
 use crate::alike::is_covered;
 use crate::lasting::is_always_invalidating_type;
 use crate::rule::Rule;
+use screen::DependencyRow;
+use screen::IdentifierRow;
+use screen::PathRow;
 
 /// The both-ways rule.
 #[derive(Clone, Copy)]
@@ -29,7 +26,13 @@ impl Alike for BothWaysRule as BothWaysAlike {
 pub impl Rule for BothWaysRule as ByBothWays {
     ghost meaning = { λ _. bothWaysMeaning };
 
-    fn same(&self, identifiers: &[IdentifierRow], paths: &[PathRow], a: &[DependencyRow], b: &[DependencyRow]) -> bool {
+    fn same(
+        &self,
+        identifiers: &[IdentifierRow],
+        paths: &[PathRow],
+        a: &[DependencyRow],
+        b: &[DependencyRow],
+    ) -> bool {
         is_covered(self, identifiers, paths, a, b) && is_covered(self, identifiers, paths, b, a)
     }
 

@@ -1,17 +1,21 @@
 //! The list rule, as the original has it: equal lengths, and each entry of the first list is alike to one of the second.
 
 ghost use mathlib.Core.Path.{_≡_};
+ghost use mathlib.Core.List.{List};
+ghost use lib.Dec.{eqb};
+ghost use lib.ListN.{length};
+ghost use Rattle.screen.specs.Rules.{depsOf};
+ghost use Rattle.screen.specs.declared.rows.IdentifierRow.{IdentifierRow};
+ghost use Rattle.screen.specs.declared.rows.PathRow.{PathRow};
 ghost use Rattle.rules.specs.Alike.{bitsAlike};
 ghost use Rattle.rules.specs.Meanings.{listMeaning};
-
-use screen::DependencyRow;
-use screen::IdentifierRow;
-use screen::PathRow;
-
 use crate::alike::Alike;
 use crate::alike::is_covered;
 use crate::lasting::is_always_invalidating_type;
 use crate::rule::Rule;
+use screen::DependencyRow;
+use screen::IdentifierRow;
+use screen::PathRow;
 
 /// The list rule.
 #[derive(Clone, Copy)]
@@ -26,11 +30,24 @@ impl Alike for ListRule as ListAlike {
     }
 }
 
+/// Whether two lists of rows stand for equally many entries, whatever the tables hold.
+fn are_as_many(a: &[DependencyRow], b: &[DependencyRow]) -> bool
+    ensures { λ r. ⌜ ((is : List IdentifierRow) (ps : List PathRow) → r ≡ eqb (length (depsOf is ps (now (a .entry)))) (length (depsOf is ps (now (b .entry))))) ⌝ }
+{
+    a.len() == b.len()
+}
+
 pub impl Rule for ListRule as ByList {
     ghost meaning = { λ _. listMeaning };
 
-    fn same(&self, identifiers: &[IdentifierRow], paths: &[PathRow], a: &[DependencyRow], b: &[DependencyRow]) -> bool {
-        a.len() == b.len() && is_covered(self, identifiers, paths, a, b)
+    fn same(
+        &self,
+        identifiers: &[IdentifierRow],
+        paths: &[PathRow],
+        a: &[DependencyRow],
+        b: &[DependencyRow],
+    ) -> bool {
+        are_as_many(a, b) && is_covered(self, identifiers, paths, a, b)
     }
 
     fn lasting(&self, kind: u8, shape: u32) -> bool {

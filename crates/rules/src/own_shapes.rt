@@ -3,15 +3,13 @@
 ghost use mathlib.Core.Path.{_≡_};
 ghost use Rattle.rules.specs.Kept.{keptIn, shapesOf};
 ghost use Rattle.rules.specs.Meanings.{ownMeaning};
-
+use crate::lasting::OBJECT;
+use crate::rule::Rule;
+use crate::shapes::Shapes;
 use screen::DependencyRow;
 use screen::IdentifierRow;
 use screen::PathRow;
 use screen::ShapeRow;
-
-use crate::lasting::OBJECT;
-use crate::rule::Rule;
-use crate::shapes::Shapes;
 
 /// A rule, and the host's own shapes over it.
 #[derive(Clone, Copy)]
@@ -26,14 +24,23 @@ impl<R> OwnShapes<R> {
         ensures shapes { λ r. ⌜ keptIn (r .shapes) ≡ shapesOf (now (rows .entry)) ⌝ }
         ensures below { λ r. ⌜ r .below ≡ below ⌝ }
     {
-        OwnShapes { below, shapes: Shapes::of(rows) }
+        OwnShapes {
+            below,
+            shapes: Shapes::of(rows),
+        }
     }
 }
 
 pub impl<R: Rule> Rule for OwnShapes<R> as ByOwnShapes {
     ghost meaning = { λ s. ownMeaning (keptIn (s .shapes)) (R·Rule .meaning (s .below)) };
 
-    fn same(&self, identifiers: &[IdentifierRow], paths: &[PathRow], a: &[DependencyRow], b: &[DependencyRow]) -> bool {
+    fn same(
+        &self,
+        identifiers: &[IdentifierRow],
+        paths: &[PathRow],
+        a: &[DependencyRow],
+        b: &[DependencyRow],
+    ) -> bool {
         self.below.same(identifiers, paths, a, b)
     }
 

@@ -2,7 +2,6 @@
 
 ghost use mathlib.Core.Path.{_≡_};
 ghost use Rattle.screen.specs.Rules.{declarationOf, pathAt};
-
 use screen::DependencyRow;
 use screen::IdentifierRow;
 use screen::PathRow;
@@ -12,14 +11,25 @@ pub fn declaration_of(identifiers: &[IdentifierRow], k: u32) -> u32
     ensures { λ r. ⌜ r ≡ declarationOf (now (identifiers .entry)) k ⌝ }
 {
     let k = k as usize;
-    if k < identifiers.len() { identifiers[k].declaration } else { 0 }
+    if k < identifiers.len() {
+        identifiers[k].declaration
+    } else {
+        0
+    }
+}
+
+/// `count` path entries from `first` on, or as many as there are.
+fn part_of(paths: &[PathRow], first: u32, count: u16) -> &[PathRow]
+    ensures { λ r. ⌜ now r ≡ pathAt (now (paths .entry)) first count ⌝ }
+{
+    let start = (first as usize).min(paths.len());
+    let end = (start + count as usize).min(paths.len());
+    &paths[start..end]
 }
 
 /// The part of the path table that a dependency names, as far as it is put.
 pub fn path_of(paths: &[PathRow], row: DependencyRow) -> &[PathRow]
     ensures { λ r. ⌜ now r ≡ pathAt (now (paths .entry)) (row .first) (row .length) ⌝ }
 {
-    let first = (row.first as usize).min(paths.len());
-    let end = (first + row.length as usize).min(paths.len());
-    &paths[first..end]
+    part_of(paths, row.first, row.length)
 }

@@ -4,7 +4,6 @@ ghost use mathlib.Core.Path.{_≡_};
 ghost use mathlib.Core.Bool.{true};
 ghost use mathlib.Core.List.{List};
 ghost use Rattle.screen.specs.Rules.{Dep, Meaning, depsOf};
-
 use screen::DependencyRow;
 use screen::IdentifierRow;
 use screen::PathRow;
@@ -18,7 +17,13 @@ pub trait Rule {
     law reflexive: { (s : Self) (l : List Dep) → meaning s .same l l ≡ true };
 
     /// Whether two dependency lists are the same. Their rows name identifiers and path entries of the two tables.
-    fn same(&self, identifiers: &[IdentifierRow], paths: &[PathRow], a: &[DependencyRow], b: &[DependencyRow]) -> bool
+    fn same(
+        &self,
+        identifiers: &[IdentifierRow],
+        paths: &[PathRow],
+        a: &[DependencyRow],
+        b: &[DependencyRow],
+    ) -> bool
         ensures { λ r. ⌜ r ≡ meaning (now (self .entry)) .same (depsOf (now (identifiers .entry)) (now (paths .entry)) (now (a .entry))) (depsOf (now (identifiers .entry)) (now (paths .entry)) (now (b .entry))) ⌝ };
 
     /// Whether a type, by its kind and its shape, is lasting.
@@ -27,7 +32,12 @@ pub trait Rule {
 }
 
 /// A list against itself: the same, by the law of every rule.
-pub fn same_as_itself<R: Rule>(rule: &R, identifiers: &[IdentifierRow], paths: &[PathRow], list: &[DependencyRow]) -> bool
+pub fn same_as_itself<R: Rule>(
+    rule: &R,
+    identifiers: &[IdentifierRow],
+    paths: &[PathRow],
+    list: &[DependencyRow],
+) -> bool
     ensures { λ r. ⌜ r ≡ true ⌝ }
 {
     rule.same(identifiers, paths, list, list)

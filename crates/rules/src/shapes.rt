@@ -1,10 +1,10 @@
 //! The host's own shapes, at most sixteen.
 
 ghost use mathlib.Core.Path.{_≡_};
-ghost use lib.ListN.{take};
+ghost use Prim.Native.Nat.{min};
+ghost use lib.ListN.{length, take};
 ghost use Rattle.screen.specs.Lists.{member};
 ghost use Rattle.rules.specs.Kept.{keptIn, shapesOf};
-
 use screen::ShapeRow;
 
 /// How many shapes are kept at most.
@@ -37,17 +37,27 @@ fn has_shape(shapes: &[u32], shape: u32) -> bool
     false
 }
 
+/// The shapes of the first sixteen rows, and zeros where there are fewer.
+fn copied(rows: &[ShapeRow]) -> [u32; MOST]
+    ensures { λ r. ⌜ take (min (length (now (rows .entry))) 16) r ≡ shapesOf (now (rows .entry)) ⌝ }
+{
+    let count = rows.len().min(MOST);
+    let mut all = [0; MOST];
+    for i in 0..count {
+        all[i] = rows[i].shape;
+    }
+    all
+}
+
 impl Shapes {
     /// The shapes of a sheet's rows, of which sixteen are kept.
     pub fn of(rows: &[ShapeRow]) -> Shapes
         ensures { λ r. ⌜ keptIn r ≡ shapesOf (now (rows .entry)) ⌝ }
     {
-        let count = rows.len().min(MOST);
-        let mut all = [0; MOST];
-        for i in 0..count {
-            all[i] = rows[i].shape;
+        Shapes {
+            kept: copied(rows),
+            count: rows.len().min(MOST) as u8,
         }
-        Shapes { kept: all, count: count as u8 }
     }
 
     /// Whether a shape is kept.

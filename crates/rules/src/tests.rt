@@ -1,12 +1,5 @@
 //! The edges of each rule, asked of the code.
 
-use std::test::*;
-
-use screen::DependencyRow;
-use screen::IdentifierRow;
-use screen::PathRow;
-use screen::ShapeRow;
-
 use crate::both_ways::BothWaysRule;
 use crate::both_ways::ByBothWays;
 use crate::lasting::FUNCTION;
@@ -16,16 +9,55 @@ use crate::list::ListRule;
 use crate::own_shapes::ByOwnShapes;
 use crate::own_shapes::OwnShapes;
 use crate::rule::Rule;
+use screen::DependencyRow;
+use screen::IdentifierRow;
+use screen::PathRow;
+use screen::ShapeRow;
+use std::test::*;
 
-const IDENTIFIERS: [IdentifierRow; 2] = [IdentifierRow { declaration: 7, typ: 0 }, IdentifierRow { declaration: 8, typ: 0 }];
+const IDENTIFIERS: [IdentifierRow; 2] = [
+    IdentifierRow {
+        declaration: 7,
+        typ: 0,
+    },
+    IdentifierRow {
+        declaration: 8,
+        typ: 0,
+    },
+];
 
 /// A path entry, and four that each differ from it in one field.
 const PATHS: [PathRow; 5] = [
-    PathRow { low: 3, high: 4, kind: 1, optional: 0 },
-    PathRow { low: 3, high: 4, kind: 1, optional: 1 },
-    PathRow { low: 3, high: 4, kind: 0, optional: 0 },
-    PathRow { low: 9, high: 4, kind: 1, optional: 0 },
-    PathRow { low: 3, high: 9, kind: 1, optional: 0 },
+    PathRow {
+        low: 3,
+        high: 4,
+        kind: 1,
+        optional: 0,
+    },
+    PathRow {
+        low: 3,
+        high: 4,
+        kind: 1,
+        optional: 1,
+    },
+    PathRow {
+        low: 3,
+        high: 4,
+        kind: 0,
+        optional: 0,
+    },
+    PathRow {
+        low: 9,
+        high: 4,
+        kind: 1,
+        optional: 0,
+    },
+    PathRow {
+        low: 3,
+        high: 9,
+        kind: 1,
+        optional: 0,
+    },
 ];
 
 /// One shape more than is kept.
@@ -50,7 +82,11 @@ const SHAPES: [ShapeRow; 17] = [
 ];
 
 fn entry(identifier: u32, first: u32, length: u16) -> DependencyRow {
-    DependencyRow { identifier, first, length }
+    DependencyRow {
+        identifier,
+        first,
+        length,
+    }
 }
 
 /// Whether two lists of one entry are the same under both rules, or under neither.

@@ -1,4 +1,3 @@
-use mathlib.Core.Path.{_≡_, ap, _∙_}
 use borrow.Author.Needs.{needs}
 use Rattle.rules.proofs.Parts.{take-min}
 use Rattle.rules.proofs.shapes.first_of.Needs as need

@@ -1,7 +1,5 @@
-use mathlib.Core.Path.{sym, ap, _∙_}
-use mathlib.Core.Bool.{not}
 use Rattle.rules.proofs.Repeats.{not-symmetric}
 use Rattle.rules.proofs.shown.list_rule_is_not_symmetric.Needs as need
 
 pub returns-then-same : need.returns-then-same
-returns-then-same c = record { stands = not-symmetric; value = ap not (c .same-then-same .ensures) }
+returns-then-same c = record { stands = not-symmetric; value = cc }

@@ -1,7 +1,7 @@
 use mathlib.Core.Path.{_≡_}
 use mathlib.Core.List.{map}
 use lib.ListN.{length, take}
-use Rattle.rules.proofs.shapes.Shapes.of.Given as given
+use Rattle.rules.proofs.shapes.copied.Given as given
 
 -- the shapes of the rows passed are kept
 abbrev pub Inv-loop-i : given.InvT-loop-i
