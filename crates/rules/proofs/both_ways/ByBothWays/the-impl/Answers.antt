@@ -1,0 +1,5 @@
+use Rattle.rules.specs.Reflexive.{both-ways-reflexive}
+use Rattle.rules.proofs.both_ways.ByBothWays.the-impl.Needs as need
+
+pub reflexive-law : need.reflexive-law
+reflexive-law s l = both-ways-reflexive l

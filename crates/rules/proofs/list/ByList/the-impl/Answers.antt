@@ -1,0 +1,5 @@
+use Rattle.rules.specs.Reflexive.{list-reflexive}
+use Rattle.rules.proofs.list.ByList.the-impl.Needs as need
+
+pub reflexive-law : need.reflexive-law
+reflexive-law s l = list-reflexive l
