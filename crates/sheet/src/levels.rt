@@ -44,7 +44,7 @@ fn highest(levels: &[u8], names: &[Option<u32>]) -> u8
 }
 
 /// Works out the level of each value; false where one passes 64.
-pub fn fill_levels(values: &[ValueRow], levels: &mut [u8; 1024]) -> bool
+pub(crate) fn fill_levels(values: &[ValueRow], levels: &mut [u8; 1024]) -> bool
     requires { ⌜ length (now values) ≤ 1024 ⌝ }
     ensures value { λ r. ⌜ r ≡ every (λ n. leb n 64) (levelsOf (now (values .entry))) ⌝ }
     ensures levels { λ r. ⌜ (r ≡ true → take (length (now (values .entry))) (now (levels .exit)) ≡ levelsOf (now (values .entry))) ⌝ }

@@ -18,7 +18,7 @@ use crate::rows::NodeRow;
 use crate::rows::ScopeRow;
 
 /// Writes a line for each node below the body, a node before its children, and answers how many.
-pub fn list(nodes: &[NodeRow], scopes: &[ScopeRow], lines: &mut [Line]) -> u32
+pub(crate) fn list(nodes: &[NodeRow], scopes: &[ScopeRow], lines: &mut [Line]) -> u32
     requires few { ⌜ length (now nodes) ≤ 1024 ⌝ }
     requires room { ⌜ 1024 ≤ length (now lines) ⌝ }
     requires tree { ⌜ ((f : Forest) × Links (now nodes) 4294967295 (body f) × ((k : ℕ) → cnt k (body f) ≤ 1) × ((k : ℕ) → 0 < openings k f → k < length (now scopes))) ⌝ }

@@ -24,14 +24,14 @@ use crate::sheet::Sheet;
 const INNER: u8 = 16;
 
 /// Whether row n is put.
-pub fn is_put<T>(rows: &[T], n: u32) -> bool
+pub(crate) fn is_put<T>(rows: &[T], n: u32) -> bool
     ensures { λ r. ⌜ r ≡ isPut (now (rows .entry)) n ⌝ }
 {
     (n as usize) < rows.len()
 }
 
 /// Whether `count` rows from `first` on are put.
-pub fn is_span<T>(rows: &[T], first: u32, count: u16) -> bool
+pub(crate) fn is_span<T>(rows: &[T], first: u32, count: u16) -> bool
     ensures { λ r. ⌜ r ≡ span (now (rows .entry)) first count ⌝ }
 {
     first as usize + count as usize <= rows.len()
@@ -82,7 +82,7 @@ fn reads_put(rows: &[ReadRow], reads: Reads) -> bool
 }
 
 /// Whether a value's reads, its stored identifier and its children are put.
-pub fn value_named(identifiers: &[IdentifierRow], reads: &[ReadRow], values: &[ValueRow], value: Value) -> bool
+pub(crate) fn value_named(identifiers: &[IdentifierRow], reads: &[ReadRow], values: &[ValueRow], value: Value) -> bool
     ensures { λ r. ⌜ r ≡ valueNamed (now (identifiers .entry)) (now (reads .entry)) (now (values .entry)) value ⌝ }
 {
     match value {
@@ -109,7 +109,7 @@ fn scope_put(scopes: &[ScopeRow], k: u32) -> bool
 }
 
 /// Whether a node's value, its target or its Scope is put.
-pub fn node_named(identifiers: &[IdentifierRow], values: &[ValueRow], scopes: &[ScopeRow], node: Node) -> bool
+pub(crate) fn node_named(identifiers: &[IdentifierRow], values: &[ValueRow], scopes: &[ScopeRow], node: Node) -> bool
     ensures { λ r. ⌜ r ≡ nodeNamed (now (identifiers .entry)) (now (values .entry)) (statusesOf (now (scopes .entry))) node ⌝ }
 {
     match node {

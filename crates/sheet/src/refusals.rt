@@ -132,7 +132,7 @@ fn innermost(s: &Sheet<'_>) -> (u32, Node)
 }
 
 /// Whether the innermost open node cannot hold this child, or Close finds only the body open.
-pub fn is_misplaced(top: Node, open: u32, entry: Entry) -> bool
+pub(crate) fn is_misplaced(top: Node, open: u32, entry: Entry) -> bool
     ensures { λ r. ⌜ r ≡ misplaced top «open» entry ⌝ }
 {
     match entry {
@@ -143,7 +143,7 @@ pub fn is_misplaced(top: Node, open: u32, entry: Entry) -> bool
 }
 
 /// Whether Open finds 64 nodes open, the body counted.
-pub fn is_crowded(open: u32, entry: Entry) -> bool
+pub(crate) fn is_crowded(open: u32, entry: Entry) -> bool
     ensures { λ r. ⌜ r ≡ crowded «open» entry ⌝ }
 {
     match entry {

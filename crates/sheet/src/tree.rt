@@ -18,7 +18,7 @@ use crate::rows::NodeRow;
 use crate::table::Table;
 
 /// Puts the siblings from `first` to `last` after the last child of a node.
-pub fn attach(nodes: &mut [NodeRow], parent: u32, first: u32, last: u32)
+pub(crate) fn attach(nodes: &mut [NodeRow], parent: u32, first: u32, last: u32)
     requires within { ⌜ parent < length (now nodes) ⌝ }
     requires last { ⌜ ((row (now nodes) parent .last ≡ 4294967295 → ⊥) → row (now nodes) parent .last < length (now nodes)) ⌝ }
     ensures { λ _. ⌜ now (nodes .exit) ≡ attached (now (nodes .entry)) parent first last ⌝ }
@@ -34,7 +34,7 @@ pub fn attach(nodes: &mut [NodeRow], parent: u32, first: u32, last: u32)
 }
 
 /// Puts a new node after the last child of an open node.
-pub fn append(nodes: &mut Table<'_, NodeRow>, parent: u32, made: Record)
+pub(crate) fn append(nodes: &mut Table<'_, NodeRow>, parent: u32, made: Record)
     requires room { ⌜ now nodes .count < length (now (now nodes .rows)) ⌝ }
     requires few { ⌜ now nodes .count < 1024 ⌝ }
     requires within { ⌜ parent < now nodes .count ⌝ }
@@ -50,7 +50,7 @@ pub fn append(nodes: &mut Table<'_, NodeRow>, parent: u32, made: Record)
 }
 
 /// How many nodes below the body are open, from the innermost up.
-pub fn open_count(nodes: &[NodeRow], innermost: u32) -> u32
+pub(crate) fn open_count(nodes: &[NodeRow], innermost: u32) -> u32
     requires { ⌜ ((ss : List Status) × (f : Forest) × (o : ℕ) × Planted (now nodes) ss innermost f o) ⌝ }
     ensures { λ r. ⌜ ((ss : List Status) (f : Forest) (o : ℕ) → Planted (now (nodes .entry)) ss innermost f o → r ≡ o) ⌝ }
 {

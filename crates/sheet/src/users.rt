@@ -49,7 +49,7 @@ fn value_user(values: &[ValueRow], k: u32) -> bool
 }
 
 /// The value that a node names.
-pub fn value_in(node: Node) -> Option<u32>
+pub(crate) fn value_in(node: Node) -> Option<u32>
     ensures { λ r. ⌜ r ≡ valueIn node ⌝ }
 {
     match node {
@@ -94,7 +94,7 @@ fn is_taken(values: &[ValueRow], nodes: &[NodeRow], names: &[Option<u32>]) -> bo
 }
 
 /// How Scope k stands; one that is not put is unused.
-pub fn status_at(scopes: &[ScopeRow], k: usize) -> Status
+pub(crate) fn status_at(scopes: &[ScopeRow], k: usize) -> Status
     ensures { λ r. ⌜ r ≡ getD (statusesOf (now (scopes .entry))) k Unused ⌝ }
 {
     if k >= scopes.len() {

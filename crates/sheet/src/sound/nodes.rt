@@ -60,7 +60,7 @@ fn is_kept(nodes: &[NodeRow], scopes: &[ScopeRow], node: usize) -> bool
 }
 
 /// Whether every node row is as it has to be.
-pub fn all_kept(nodes: &[NodeRow], scopes: &[ScopeRow]) -> bool
+pub(crate) fn all_kept(nodes: &[NodeRow], scopes: &[ScopeRow]) -> bool
     requires { ⌜ ScopesNamed (now nodes) (length (now scopes)) ⌝ }
     ensures yes { λ r. ⌜ (r ≡ true → (k : ℕ) → k < length (now (nodes .entry)) → Kept (now (nodes .entry)) (statusesOf (now (scopes .entry))) k) ⌝ }
     ensures no { λ r. ⌜ (((k : ℕ) → k < length (now (nodes .entry)) → Kept (now (nodes .entry)) (statusesOf (now (scopes .entry))) k) → r ≡ true) ⌝ }
@@ -74,7 +74,7 @@ pub fn all_kept(nodes: &[NodeRow], scopes: &[ScopeRow]) -> bool
 }
 
 /// How many nodes should be in the tree.
-pub fn expected_size(nodes: &[NodeRow], scopes: &[ScopeRow]) -> usize
+pub(crate) fn expected_size(nodes: &[NodeRow], scopes: &[ScopeRow]) -> usize
     requires { ⌜ ScopesNamed (now nodes) (length (now scopes)) ⌝ }
     ensures { λ r. ⌜ r ≡ expected (now (nodes .entry)) (statusesOf (now (scopes .entry))) (length (now (nodes .entry))) ⌝ }
 {

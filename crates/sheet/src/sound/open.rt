@@ -29,7 +29,7 @@ fn is_last(nodes: &[NodeRow], node: u32) -> bool
 }
 
 /// Whether the nodes from this one up to the body can be open: last children that Open made, at most 64 with the body.
-pub fn can_be_open(nodes: &[NodeRow], node: u32) -> bool
+pub(crate) fn can_be_open(nodes: &[NodeRow], node: u32) -> bool
     requires few { ⌜ (0 < length (now nodes)) × (length (now nodes) ≤ 1024) ⌝ }
     ensures yes { λ r. ⌜ (r ≡ true → (f : Forest) → Links (now (nodes .entry)) 4294967295 (body f) → (o : ℕ) × (opens o f ≡ true) × (o ≤ 63) × (innermost root o f .number ≡ node)) ⌝ }
     ensures no { λ r. ⌜ ((f : Forest) (o : ℕ) → Links (now (nodes .entry)) 4294967295 (body f) → opens o f ≡ true → o ≤ 63 → innermost root o f .number ≡ node → r ≡ true) ⌝ }

@@ -65,7 +65,7 @@ fn all_marked(scopes: &[ScopeRow], marks: &[bool]) -> bool
 }
 
 /// Whether each Scope that is not gone was opened by one node where it stands, and else by none.
-pub fn opened_once(nodes: &[NodeRow], scopes: &[ScopeRow]) -> bool
+pub(crate) fn opened_once(nodes: &[NodeRow], scopes: &[ScopeRow]) -> bool
     requires few { ⌜ length (now scopes) ≤ 256 ⌝ }
     requires named { ⌜ ScopesNamed (now nodes) (length (now scopes)) ⌝ }
     ensures yes { λ r. ⌜ (r ≡ true → OpenedOnce (now (nodes .entry)) (statusesOf (now (scopes .entry)))) ⌝ }

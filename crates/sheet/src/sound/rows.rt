@@ -33,7 +33,7 @@ use crate::rows::ScopeRow;
 use crate::sheet::Sheet;
 
 /// Whether a record's fields keep their list.
-pub fn is_listed(record: Record) -> bool
+pub(crate) fn is_listed(record: Record) -> bool
     ensures { λ r. ⌜ r ≡ isListed (entryOf «record») ⌝ }
 {
     match Entry::of(record) {
@@ -54,7 +54,7 @@ fn is_kept(s: &Sheet<'_>, record: Record) -> bool
 }
 
 /// Whether each row keeps the list of its record, and names rows that are put.
-pub fn rows_kept<R: Row>(s: &Sheet<'_>, rows: &[R]) -> bool
+pub(crate) fn rows_kept<R: Row>(s: &Sheet<'_>, rows: &[R]) -> bool
     requires { ⌜ Within (memory (now s)) ⌝ }
     ensures { λ r. ⌜ r ≡ every (λ x. kept (rowsOf (memory (now (s .entry)))) (statusesOf (items (memory (now (s .entry)) .scopes))) (made x)) (now (rows .entry)) ⌝ }
 {
@@ -74,7 +74,7 @@ fn value_kept(identifiers: &[IdentifierRow], reads: &[ReadRow], before: &[ValueR
 }
 
 /// The same of each value.
-pub fn values_kept(identifiers: &[IdentifierRow], reads: &[ReadRow], values: &[ValueRow]) -> bool
+pub(crate) fn values_kept(identifiers: &[IdentifierRow], reads: &[ReadRow], values: &[ValueRow]) -> bool
     ensures { λ r. ⌜ r ≡ valuesKept (now (identifiers .entry)) (now (reads .entry)) [] (now (values .entry)) ⌝ }
 {
     for i in 0..values.len() {
@@ -106,7 +106,7 @@ fn is_blank(record: Record) -> bool
 }
 
 /// Whether the body's record is all zeros, and every other node is as it should be by itself.
-pub fn nodes_kept(identifiers: &[IdentifierRow], values: &[ValueRow], scopes: &[ScopeRow], nodes: &[NodeRow]) -> bool
+pub(crate) fn nodes_kept(identifiers: &[IdentifierRow], values: &[ValueRow], scopes: &[ScopeRow], nodes: &[NodeRow]) -> bool
     ensures { λ r. ⌜ Decides r (NodesKept (now (identifiers .entry)) (now (values .entry)) (statusesOf (now (scopes .entry))) (now (nodes .entry))) ⌝ }
 {
     if nodes.is_empty() || !is_blank(nodes[0].made) {

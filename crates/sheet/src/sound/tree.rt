@@ -18,7 +18,7 @@ use crate::sound::walk::tree_size;
 
 /// Whether the node rows hold a tree as they should.
 /// A tree of as many nodes as should be in it has all of them, so no node needs a mark.
-pub fn tree_sound(nodes: &[NodeRow], scopes: &[ScopeRow], innermost: u32) -> bool
+pub(crate) fn tree_sound(nodes: &[NodeRow], scopes: &[ScopeRow], innermost: u32) -> bool
     requires few { ⌜ (0 < length (now nodes)) × (length (now nodes) ≤ 1024) × (length (now scopes) ≤ 256) ⌝ }
     requires named { ⌜ ScopesNamed (now nodes) (length (now scopes)) ⌝ }
     requires body { ⌜ nodeAt (now nodes) 0 ≡ Body ⌝ }

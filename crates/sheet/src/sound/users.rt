@@ -62,7 +62,7 @@ fn mark_nodes(nodes: &[NodeRow], limit: usize, marks: &mut [bool]) -> bool
 }
 
 /// Whether each value that is named is put, and none is named twice.
-pub fn one_user_each(values: &[ValueRow], nodes: &[NodeRow]) -> bool
+pub(crate) fn one_user_each(values: &[ValueRow], nodes: &[NodeRow]) -> bool
     requires { ⌜ length (now values) ≤ 1024 ⌝ }
     ensures { λ r. ⌜ r ≡ fresh (length (now (values .entry))) (replicate 1024 false) (namings (now (values .entry)) (nodesOf (now (nodes .entry)))) ⌝ }
 {

@@ -77,7 +77,7 @@ fn on(nodes: &[NodeRow], at: Seat) -> Seat
 }
 
 /// How many nodes the tree has, or 0 where the links are not those of a tree.
-pub fn tree_size(nodes: &[NodeRow]) -> usize
+pub(crate) fn tree_size(nodes: &[NodeRow]) -> usize
     requires few { ⌜ (0 < length (now nodes)) × (length (now nodes) ≤ 1024) ⌝ }
     requires body { ⌜ nodeOf (row (now nodes) 0 .made) ≡ Body ⌝ }
     ensures yes { λ r. ⌜ (0 < r → (f : Forest) × Links (now (nodes .entry)) 4294967295 (body f) × (shallow 63 f ≡ true) × (size (body f) ≡ r)) ⌝ }
