@@ -18,7 +18,7 @@ use Rattle.screen.specs.Statuses.{isUnused}
 use Rattle.screen.specs.Standing.{reached, opening, openings, Labelled, Standing}
 use Rattle.screen.specs.Named.{nodeNamed, named}
 use Rattle.screen.specs.Users.{namesIn, namings, taken}
-use Rattle.screen.specs.Refused.{statuses, used, deep, noRoom, misplaced, crowded, topOf, refusedOf}
+use Rattle.screen.specs.Refused.{statuses, topOf, refusedOf}
 use Rattle.screen.specs.Step.{also, reassigned, declaring, alteredLast, after, taking, asked, step}
 use Rattle.screen.specs.WellFormed.{nodeListed, nodesKept, RowsKept, ScopesKept, WellFormed}
 use Rattle.screen.specs.declared.node.Node.{Node}
@@ -27,41 +27,23 @@ use Rattle.screen.specs.declared.scope.Status.{Status}
 use Rattle.screen.specs.declared.scope.Status.the-variants.{Unused, Standing as Stood, Joined, Flattened}
 use Rattle.screen.specs.declared.rows.IdentifierRow.{IdentifierRow}
 use Rattle.screen.specs.declared.rows.ValueRow.{ValueRow}
+use Rattle.screen.specs.declared.answer.Refusal.{Refusal}
 use Rattle.screen.specs.declared.entry.Entry.{Entry}
 use Rattle.screen.specs.declared.entry.Entry.the-variants as entry
 use Rattle.screen.specs.declared.entry.Put.{Put}
 use Rattle.screen.specs.declared.entry.Put.the-variants as put
 use Rattle.screen.specs.declared.entry.Part.{Part}
 use Rattle.screen.specs.declared.entry.Part.the-variants as part
-use Rattle.screen.specs.declared.answer.Refusal.{Refusal}
 use Rattle.screen.proofs.Counts.{same-other}
 use Rattle.screen.proofs.StandingGrown.{standing-add, standing-open, standing-scope, standing-closed, standing-fresh}
 use Rattle.screen.proofs.Entered.{keeps, entered}
 use Rattle.screen.proofs.Scoping.{statuses-kept, statuses-stood, statuses-fresh, scopes-declaring, scopes-reassigned, scopes-stood, scopes-dependency, scopes-fresh}
+use Rattle.screen.proofs.Accepting.{Accepted, accepted}
 use Rattle.screen.proofs.Filling.{type-put, identifier-put, path-put, dependency-put, declaration-put, read-put, shape-put, value-put, node-put, scope-put}
 
--- no reason to refuse an entry fits
-pub record Accepted (σ : State) (e : Entry) : Type 0 where
-  pub rows-put : named (σ .rows) (statuses (σ .scopes)) e ≡ true
-  pub free : used (σ .rows) (statuses (σ .scopes)) e ≡ false
-  pub low : deep (σ .rows) e ≡ false
-  pub space : noRoom (σ .rows) (statuses (σ .scopes)) e ≡ false
-  pub placed : misplaced (topOf σ) (σ .opened) e ≡ false
-  pub few : crowded (σ .opened) e ≡ false
-
-not-first : (b : Bool) (r : Refusal) (rest : Option Refusal) → cond b (Some r) rest ≡ None → (b ≡ false) × (rest ≡ None)
-not-first true r rest h = (cc, cc)
-not-first false r rest h = (refl, h)
-
-pub accepted : (σ : State) (e : Entry) → refusedOf σ e ≡ None → Accepted σ e
-accepted σ e h =
-    let a = not-first (not (named (σ .rows) (statuses (σ .scopes)) e)) _ _ h in
-    let b = not-first (used (σ .rows) (statuses (σ .scopes)) e) _ _ (a .1) in
-    let c = not-first (deep (σ .rows) e) _ _ (b .1) in
-    let d = not-first (noRoom (σ .rows) (statuses (σ .scopes)) e) _ _ (c .1) in
-    let f = not-first (misplaced (topOf σ) (σ .opened) e) _ _ (d .1) in
-    let g = not-first (crowded (σ .opened) e) _ None (f .1) in
-    record { rows-put = not-false (named (σ .rows) (statuses (σ .scopes)) e) (a .0); free = b .0; low = c .0; space = d .0; placed = f .0; few = g .0 }
+-- a sheet does not refuse the entry
+abbrev Accepts : State → Entry → Type 0
+Accepts σ e = Accepted (σ .rows) (statuses (σ .scopes)) (topOf σ) (σ .opened) e
 
 -- a node that names put rows did not open a Scope that is yet to come
 named-opening : (is : List IdentifierRow) (vs : List ValueRow) (ss : List Status) (k : ℕ) → length ss ≤ k → (x : Node) → nodeNamed is vs ss x ≡ true → opening k x ≡ 0
@@ -104,26 +86,26 @@ is-unused Joined h = absurd (false≢true (sym h))
 is-unused Flattened h = absurd (false≢true (sym h))
 
 module _ (σ : State) (h : WellFormed σ) where
-  formed-put : (p : Put) → keeps (entry.Put p) ≡ true → Accepted σ (entry.Put p) → WellFormed (after σ (entry.Put p))
-  formed-put (put.Type t) k a = record { rows = type-put (σ .rows) (statuses (σ .scopes)) (h .rows) t (a .space) k; scopes = h .scopes; tree = h .tree }
-  formed-put (put.Identifier i) k a = record { rows = identifier-put (σ .rows) (statuses (σ .scopes)) (h .rows) i (a .space) k (a .rows-put); scopes = h .scopes; tree = h .tree }
-  formed-put (put.Path p) k a = record { rows = path-put (σ .rows) (statuses (σ .scopes)) (h .rows) p (a .space) k; scopes = h .scopes; tree = h .tree }
-  formed-put (put.Read r) k a = record { rows = read-put (σ .rows) (statuses (σ .scopes)) (h .rows) r (a .space) (a .rows-put); scopes = h .scopes; tree = h .tree }
-  formed-put (put.Shape s) k a = record { rows = shape-put (σ .rows) (statuses (σ .scopes)) (h .rows) s (a .space) k; scopes = h .scopes; tree = h .tree }
+  formed-put : (p : Put) → keeps (entry.Put p) ≡ true → Accepts σ (entry.Put p) → WellFormed (after σ (entry.Put p))
+  formed-put (put.Type t) k a = record { rows = type-put (σ .rows) (statuses (σ .scopes)) (h .rows) t (a .room-is) k; scopes = h .scopes; tree = h .tree }
+  formed-put (put.Identifier i) k a = record { rows = identifier-put (σ .rows) (statuses (σ .scopes)) (h .rows) i (a .room-is) k (a .named-is); scopes = h .scopes; tree = h .tree }
+  formed-put (put.Path p) k a = record { rows = path-put (σ .rows) (statuses (σ .scopes)) (h .rows) p (a .room-is) k; scopes = h .scopes; tree = h .tree }
+  formed-put (put.Read r) k a = record { rows = read-put (σ .rows) (statuses (σ .scopes)) (h .rows) r (a .room-is) (a .named-is); scopes = h .scopes; tree = h .tree }
+  formed-put (put.Shape s) k a = record { rows = shape-put (σ .rows) (statuses (σ .scopes)) (h .rows) s (a .room-is) k; scopes = h .scopes; tree = h .tree }
   formed-put (put.Scope start end) k a =
       let w : Rows = σ .rows in
       let ss : List Status = statuses (σ .scopes) in
       let e = statuses-fresh (σ .scopes) start end (length (w .dependencies)) in
       let none : openings (length ss) (body (σ .tree)) ≡ 0 = kept-openings (w .identifiers) (w .values) ss (length ss) (omega arith) (w .nodes) (h .rows .nodes) (body (σ .tree)) (h .tree .labelled) in
       record {
-        rows = subst (λ (ts : List Status). RowsKept w ts) (sym e) (scope-put w ss (h .rows) (a .space));
+        rows = subst (λ (ts : List Status). RowsKept w ts) (sym e) (scope-put w ss (h .rows) (a .room-is));
         scopes = scopes-fresh (σ .scopes) (length (w .dependencies)) (length (w .declarations)) start end k (h .scopes);
         tree = subst (λ (ts : List Status). Standing (w .nodes) ts (σ .tree) (σ .opened)) (sym e) (standing-fresh (w .nodes) ss (σ .tree) (σ .opened) (h .tree) (omega (arith, none)));
       }
 
   -- a part needs a Scope to belong to
-  some-scope : (p : Part) → Accepted σ (entry.Part p) → isPut (statuses (σ .scopes)) 0 ≡ true
-  some-scope p a = and-parts (isPut (statuses (σ .scopes)) 0) _ (a .rows-put) .0
+  some-scope : (p : Part) → Accepts σ (entry.Part p) → isPut (statuses (σ .scopes)) 0 ≡ true
+  some-scope p a = and-parts (isPut (statuses (σ .scopes)) 0) _ (a .named-is) .0
 
   -- the last Scope changed, but not how it stands
   last-rows : (f : Scope → Scope) → ((s : Scope) → f s .status ≡ s .status) → (w : Rows) → RowsKept w (statuses (σ .scopes)) → RowsKept w (statuses (alteredLast (σ .scopes) f))
@@ -132,10 +114,10 @@ module _ (σ : State) (h : WellFormed σ) where
   last-tree : (f : Scope → Scope) → ((s : Scope) → f s .status ≡ s .status) → Standing (σ .rows .nodes) (statuses (alteredLast (σ .scopes) f)) (σ .tree) (σ .opened)
   last-tree f e = subst (λ (ts : List Status). Standing (σ .rows .nodes) ts (σ .tree) (σ .opened)) (sym (statuses-kept f e (σ .scopes) (length (σ .scopes) - 1))) (h .tree)
 
-  formed-part : (p : Part) → keeps (entry.Part p) ≡ true → Accepted σ (entry.Part p) → WellFormed (after σ (entry.Part p))
+  formed-part : (p : Part) → keeps (entry.Part p) ≡ true → Accepts σ (entry.Part p) → WellFormed (after σ (entry.Part p))
   formed-part (part.Dependency d) k a =
       record {
-        rows = dependency-put (σ .rows) (statuses (σ .scopes)) (h .rows) d (a .space) k (a .rows-put);
+        rows = dependency-put (σ .rows) (statuses (σ .scopes)) (h .rows) d (a .room-is) k (a .named-is);
         scopes = subst (λ (n : ℕ). ScopesKept (σ .scopes) n (length (σ .rows .declarations))) (sym (length-push (σ .rows .dependencies) d))
           (scopes-dependency (σ .scopes) (length (σ .rows .dependencies)) (length (σ .rows .declarations)) (some-scope (part.Dependency d) a) (h .scopes));
         tree = h .tree;
@@ -143,7 +125,7 @@ module _ (σ : State) (h : WellFormed σ) where
   formed-part (part.Declaration key declared) k a =
       let n : ℕ = length (σ .rows .declarations) in
       record {
-        rows = last-rows (declaring n) (λ s. refl) _ (declaration-put (σ .rows) (statuses (σ .scopes)) (h .rows) (record { key = key; declared = declared }) (a .space) (a .rows-put));
+        rows = last-rows (declaring n) (λ s. refl) _ (declaration-put (σ .rows) (statuses (σ .scopes)) (h .rows) (record { key = key; declared = declared }) (a .room-is) (a .named-is));
         scopes = subst (λ (m : ℕ). ScopesKept (alteredLast (σ .scopes) (declaring n)) (length (σ .rows .dependencies)) m) (sym (length-push (σ .rows .declarations) (record { key = key; declared = declared })))
           (scopes-declaring (σ .scopes) (length (σ .rows .dependencies)) n (some-scope (part.Declaration key declared) a) (h .scopes));
         tree = last-tree (declaring n) (λ s. refl);
@@ -156,67 +138,67 @@ module _ (σ : State) (h : WellFormed σ) where
       }
 
   -- the innermost open node can hold it
-  held : (x : Node) → Accepted σ (entry.Node x) → canHold (topOf σ) x ≡ true
-  held x a = not-false (canHold (topOf σ) x) (a .placed)
+  held : (x : Node) → Accepts σ (entry.Node x) → canHold (topOf σ) x ≡ true
+  held x a = not-false (canHold (topOf σ) x) (a .placed-is)
 
   -- a node that opens no Scope
-  plain-rows : (x : Node) → nodeListed x ≡ true → taken (namings (σ .rows .values) (σ .rows .nodes)) (namesIn x) ≡ false → Accepted σ (entry.Node x)
+  plain-rows : (x : Node) → nodeListed x ≡ true → taken (namings (σ .rows .values) (σ .rows .nodes)) (namesIn x) ≡ false → Accepts σ (entry.Node x)
     → RowsKept (after σ (entry.Node x) .rows) (statuses (σ .scopes))
-  plain-rows x k free a = node-put (σ .rows) (statuses (σ .scopes)) (h .rows) (statuses (σ .scopes)) x refl (a .space) k (a .rows-put) free
+  plain-rows x k free a = node-put (σ .rows) (statuses (σ .scopes)) (h .rows) (statuses (σ .scopes)) x refl (a .room-is) k (a .named-is) free
 
-  formed-node : (x : Node) → keeps (entry.Node x) ≡ true → Accepted σ (entry.Node x) → WellFormed (after σ (entry.Node x))
+  formed-node : (x : Node) → keeps (entry.Node x) ≡ true → Accepts σ (entry.Node x) → WellFormed (after σ (entry.Node x))
   formed-node node.Body k a = absurd (false≢true k)
   formed-node (node.Add o v t) k a =
       record {
-        rows = plain-rows (node.Add o v t) k (a .free) a;
+        rows = plain-rows (node.Add o v t) k (a .used-is) a;
         scopes = h .scopes;
         tree = standing-add (σ .rows .nodes) (statuses (σ .scopes)) (σ .tree) (σ .opened) (h .tree) (length (σ .rows .nodes)) (node.Add o v t) refl (held (node.Add o v t) a) refl;
       }
   formed-node (node.Terminal j o v) k a =
       record {
-        rows = plain-rows (node.Terminal j o v) k (a .free) a;
+        rows = plain-rows (node.Terminal j o v) k (a .used-is) a;
         scopes = h .scopes;
         tree = standing-open (σ .rows .nodes) (statuses (σ .scopes)) (σ .tree) (σ .opened) (h .tree) (length (σ .rows .nodes)) (node.Terminal j o v) refl (held (node.Terminal j o v) a) refl refl
-          (leb-false 63 (σ .opened) (a .few));
+          (leb-false 63 (σ .opened) (a .crowded-is));
       }
   formed-node node.Arm k a =
       record {
         rows = plain-rows node.Arm k refl a;
         scopes = h .scopes;
-        tree = standing-open (σ .rows .nodes) (statuses (σ .scopes)) (σ .tree) (σ .opened) (h .tree) (length (σ .rows .nodes)) node.Arm refl (held node.Arm a) refl refl (leb-false 63 (σ .opened) (a .few));
+        tree = standing-open (σ .rows .nodes) (statuses (σ .scopes)) (σ .tree) (σ .opened) (h .tree) (length (σ .rows .nodes)) node.Arm refl (held node.Arm a) refl refl (leb-false 63 (σ .opened) (a .crowded-is));
       }
   formed-node (node.Pruned j) k a =
       record {
         rows = plain-rows (node.Pruned j) k refl a;
         scopes = h .scopes;
         tree = standing-open (σ .rows .nodes) (statuses (σ .scopes)) (σ .tree) (σ .opened) (h .tree) (length (σ .rows .nodes)) (node.Pruned j) refl (held (node.Pruned j) a) refl refl
-          (leb-false 63 (σ .opened) (a .few));
+          (leb-false 63 (σ .opened) (a .crowded-is));
       }
   formed-node (node.Scope j) k a =
       let w : Rows = σ .rows in
       let ss : List Status = statuses (σ .scopes) in
-      let within : j < length ss = ltb-true j (length ss) (a .rows-put) in
-      let unused : getD ss j Unused ≡ Unused = is-unused (getD ss j Unused) (a .free) in
+      let within : j < length ss = ltb-true j (length ss) (a .named-is) in
+      let unused : getD ss j Unused ≡ Unused = is-unused (getD ss j Unused) (a .used-is) in
       let e = statuses-stood (σ .scopes) j in
       record {
         rows = subst (λ (ts : List Status). RowsKept (after σ (entry.Node (node.Scope j)) .rows) ts) (sym e)
-          (node-put w ss (h .rows) (set ss j Stood) (node.Scope j) (length-set ss j Stood) (a .space) refl (a .rows-put) refl);
+          (node-put w ss (h .rows) (set ss j Stood) (node.Scope j) (length-set ss j Stood) (a .room-is) refl (a .named-is) refl);
         scopes = scopes-stood (σ .scopes) j (length (w .dependencies)) (length (w .declarations)) within unused (h .scopes);
         tree = subst (λ (ts : List Status). Standing (also (w .nodes) (node.Scope j)) ts (after σ (entry.Node (node.Scope j)) .tree) (σ .opened + 1)) (sym e)
-          (standing-scope (w .nodes) ss (σ .tree) (σ .opened) (h .tree) (length (w .nodes)) j refl (held (node.Scope j) a) within unused (leb-false 63 (σ .opened) (a .few)));
+          (standing-scope (w .nodes) ss (σ .tree) (σ .opened) (h .tree) (length (w .nodes)) j refl (held (node.Scope j) a) within unused (leb-false 63 (σ .opened) (a .crowded-is)));
       }
 
-  formed : (e : Entry) → keeps e ≡ true → Accepted σ e → WellFormed (after σ e)
+  formed : (e : Entry) → keeps e ≡ true → Accepts σ e → WellFormed (after σ e)
   formed (entry.Put p) k a = formed-put p k a
   formed (entry.Part p) k a = formed-part p k a
-  formed (entry.Value v) k a = record { rows = value-put (σ .rows) (statuses (σ .scopes)) (h .rows) v (a .space) k (a .rows-put) (a .free) (a .low); scopes = h .scopes; tree = h .tree }
+  formed (entry.Value v) k a = record { rows = value-put (σ .rows) (statuses (σ .scopes)) (h .rows) v (a .room-is) k (a .named-is) (a .used-is) (a .deep-is); scopes = h .scopes; tree = h .tree }
   formed (entry.Node x) k a = formed-node x k a
   formed entry.Close k a = record { rows = h .rows; scopes = h .scopes; tree = standing-closed (σ .rows .nodes) (statuses (σ .scopes)) (σ .tree) (σ .opened) (h .tree) }
   formed entry.List k a = record { rows = h .rows; scopes = h .scopes; tree = h .tree }
 
 -- an accepted entry keeps a sheet well-formed
 pub formed-after : (σ : State) (x : Record) (e : Entry) → WellFormed σ → entryOf x ≡ Some e → refusedOf σ e ≡ None → WellFormed (after σ e)
-formed-after σ x e h is ok = formed σ h e (entered x e is) (accepted σ e ok)
+formed-after σ x e h is ok = formed σ h e (entered x e is) (accepted (σ .rows) (statuses (σ .scopes)) (topOf σ) (σ .opened) e ok)
 
 -- so does a record, whatever it asks for
 pub formed-step : (σ : State) (x : Record) → WellFormed σ → WellFormed (step σ x .sheet)

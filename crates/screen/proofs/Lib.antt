@@ -9,4 +9,5 @@ pub mod Staying
 pub mod Distinct
 pub mod Scoping
 pub mod Filling
+pub mod Accepting
 pub mod Forming

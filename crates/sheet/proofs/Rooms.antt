@@ -31,7 +31,7 @@ use Rattle.sheet.specs.Room.{Room, PutRoom, LastRoom, DeclarationRoom, PartRoo
 use Rattle.sheet.specs.Kept.{Long}
 use Rattle.sheet.proofs.Storing.{items-many}
 use Rattle.sheet.proofs.Climbing.{innermost-within, innermost-last}
-use Rattle.sheet.proofs.Accepting.{Accepted, accepted}
+use Rattle.screen.proofs.Accepting.{Accepted, accepted}
 use Rattle.sheet.proofs.Gathering.{told}
 use Rattle.sheet.proofs.Declaring.{first-within}
 

@@ -6,7 +6,6 @@ use Prim.Native.Nat.{ℕ, zero, suc, _<_, _≤_}
 use native.Mathlib.Omega.{arith}
 use lib.Dec.{leb, ltb}
 use lib.ListN.{length, getD, take, replicate, length-map}
-use Rattle.std.proofs.shelf.Lists.{length-take-le}
 use Rattle.std.proofs.shelf.Tests.{and-parts, and-from, le-leb, leb-true}
 use Rattle.screen.specs.Lists.{every, distinct}
 use Rattle.screen.specs.Records.{typeRecord, identifierRecord, pathRecord, dependencyRecord, declarationRecord, readRecord, shapeRecord}
@@ -40,15 +39,14 @@ use Rattle.sheet.specs.Links.{row}
 use Rattle.sheet.specs.Listed.{ScopeBelow}
 use Rattle.sheet.specs.Fitting.{nodeAt, ScopesNamed}
 use Rattle.sheet.specs.Examined.{Fitted, plainKept, RowsSound, ScopesSound, TreeSound}
+use Rattle.sheet.proofs.Storing.{items-many}
+use Rattle.sheet.proofs.Accepting.{statuses-are}
 use Rattle.sheet.proofs.Marking.{Plain, plain-fresh, fresh-plain}
 use Rattle.sheet.proofs.Examining.{unmarked-rows}
 use Rattle.sheet.proofs.Listing.{named-below}
 use Rattle.sheet.proofs.NodeRowing.{body-made, kept-some, kept-body, kept-rest}
 
--- a table that is long enough and counts no more than its limit
-pub items-length : {T : Type 0} (t : Stored T) → within t → length (items t) ≡ t .count
-items-length t h = length-take-le (t .count) (t .rows) h
-
+-- tables that are long enough and count no more than their limits
 pub within-long : (m : Memory) → Long m → Fitted m → Within m
 within-long m l f =
     record {
@@ -145,32 +143,32 @@ module _ (m : Memory) (in′ : Within m) where
   fitted-fits f =
       fits-from (rowsOf m) (statusesOf (items (m .scopes)))
       (record {
-        types = omega (arith, items-length (m .types) (in′ .types), f .types);
-        identifiers = omega (arith, items-length (m .identifiers) (in′ .identifiers), f .identifiers);
-        paths = omega (arith, items-length (m .paths) (in′ .paths), f .paths);
-        scopes = omega (arith, length-map (items (m .scopes)) (λ r. statusOf (r .status)), items-length (m .scopes) (in′ .scopes), f .scopes);
-        dependencies = omega (arith, items-length (m .dependencies) (in′ .dependencies), f .dependencies);
-        declarations = omega (arith, length-map (items (m .declarations)) declarationOf, items-length (m .declarations) (in′ .declarations), f .declarations);
-        reads = omega (arith, items-length (m .reads) (in′ .reads), f .reads);
-        values = omega (arith, items-length (m .values) (in′ .values), f .values);
-        shapes = omega (arith, items-length (m .shapes) (in′ .shapes), f .shapes);
-        nodes = omega (arith, length-map (items (m .nodes)) (λ r. nodeOf (r .made)), items-length (m .nodes) (in′ .nodes), f .nodes);
+        types = omega (arith, items-many (m .types) (in′ .types), f .types);
+        identifiers = omega (arith, items-many (m .identifiers) (in′ .identifiers), f .identifiers);
+        paths = omega (arith, items-many (m .paths) (in′ .paths), f .paths);
+        scopes = omega (arith, length-map (items (m .scopes)) (λ r. statusOf (r .status)), items-many (m .scopes) (in′ .scopes), f .scopes);
+        dependencies = omega (arith, items-many (m .dependencies) (in′ .dependencies), f .dependencies);
+        declarations = omega (arith, length-map (items (m .declarations)) declarationOf, items-many (m .declarations) (in′ .declarations), f .declarations);
+        reads = omega (arith, items-many (m .reads) (in′ .reads), f .reads);
+        values = omega (arith, items-many (m .values) (in′ .values), f .values);
+        shapes = omega (arith, items-many (m .shapes) (in′ .shapes), f .shapes);
+        nodes = omega (arith, length-map (items (m .nodes)) (λ r. nodeOf (r .made)), items-many (m .nodes) (in′ .nodes), f .nodes);
       })
 
   pub fits-fitted : fits (rowsOf m) (statusesOf (items (m .scopes))) ≡ true → Fitted m
   fits-fitted h =
       let f = fits-parts (rowsOf m) (statusesOf (items (m .scopes))) h in
       record {
-        types = omega (arith, items-length (m .types) (in′ .types), f .types);
-        identifiers = omega (arith, items-length (m .identifiers) (in′ .identifiers), f .identifiers);
-        paths = omega (arith, items-length (m .paths) (in′ .paths), f .paths);
-        scopes = omega (arith, length-map (items (m .scopes)) (λ r. statusOf (r .status)), items-length (m .scopes) (in′ .scopes), f .scopes);
-        dependencies = omega (arith, items-length (m .dependencies) (in′ .dependencies), f .dependencies);
-        declarations = omega (arith, length-map (items (m .declarations)) declarationOf, items-length (m .declarations) (in′ .declarations), f .declarations);
-        reads = omega (arith, items-length (m .reads) (in′ .reads), f .reads);
-        values = omega (arith, items-length (m .values) (in′ .values), f .values);
-        shapes = omega (arith, items-length (m .shapes) (in′ .shapes), f .shapes);
-        nodes = omega (arith, length-map (items (m .nodes)) (λ r. nodeOf (r .made)), items-length (m .nodes) (in′ .nodes), f .nodes);
+        types = omega (arith, items-many (m .types) (in′ .types), f .types);
+        identifiers = omega (arith, items-many (m .identifiers) (in′ .identifiers), f .identifiers);
+        paths = omega (arith, items-many (m .paths) (in′ .paths), f .paths);
+        scopes = omega (arith, length-map (items (m .scopes)) (λ r. statusOf (r .status)), items-many (m .scopes) (in′ .scopes), f .scopes);
+        dependencies = omega (arith, items-many (m .dependencies) (in′ .dependencies), f .dependencies);
+        declarations = omega (arith, length-map (items (m .declarations)) declarationOf, items-many (m .declarations) (in′ .declarations), f .declarations);
+        reads = omega (arith, items-many (m .reads) (in′ .reads), f .reads);
+        values = omega (arith, items-many (m .values) (in′ .values), f .values);
+        shapes = omega (arith, items-many (m .shapes) (in′ .shapes), f .shapes);
+        nodes = omega (arith, length-map (items (m .nodes)) (λ r. nodeOf (r .made)), items-many (m .nodes) (in′ .nodes), f .nodes);
       }
 
   -- every row by itself
@@ -183,7 +181,7 @@ module _ (m : Memory) (in′ : Within m) where
       let h3 = first _ _ h4 in
       let h2 = first _ _ h3 in
       let h1 = first _ _ h2 in
-      let few : length (items (m .values)) ≤ 1024 = omega (arith, items-length (m .values) (in′ .values), f .values) in
+      let few : length (items (m .values)) ≤ 1024 = omega (arith, items-many (m .values) (in′ .values), f .values) in
       record {
         kept =
           record {
@@ -205,7 +203,7 @@ module _ (m : Memory) (in′ : Within m) where
 
   pub rows-sound-users : Fitted m → RowsSound m → fresh (length (items (m .values))) (replicate 1024 false) (namings (items (m .values)) (nodesOf (items (m .nodes)))) ≡ true
   rows-sound-users f r =
-      let few : length (items (m .values)) ≤ 1024 = omega (arith, items-length (m .values) (in′ .values), f .values) in
+      let few : length (items (m .values)) ≤ 1024 = omega (arith, items-many (m .values) (in′ .values), f .values) in
       plain-fresh (length (items (m .values))) (replicate 1024 false) (namings (items (m .values)) (nodesOf (items (m .nodes))))
       (record {
         below = namings-below (items (m .identifiers)) (items (m .reads)) (items (m .values)) (statusesOf (items (m .scopes))) (nodesOf (items (m .nodes))) (r .kept .values) (r .kept .nodes);
@@ -225,16 +223,9 @@ module _ (m : Memory) (in′ : Within m) where
   pub body-node : RowsSound m → nodeAt (items (m .nodes)) 0 ≡ Body
   body-node r = ap nodeOf (kept-body (items (m .identifiers)) (items (m .values)) (statusesOf (items (m .scopes))) (items (m .nodes)) (record { records = r .records; nodes = r .kept .nodes })) ∙ body-made
 
--- how the Scopes stand, by their rows
-pub statuses-held : (S : List ScopeRow) (D : List DeclarationRow) (rs : List ScopeRow) (ss : List Scope) → ScopesHeld S D rs ss → statusesOf rs ≡ statuses ss
-statuses-held S D [] [] h = refl
-statuses-held S D [] (k ∷ ks) h = absurd h
-statuses-held S D (r ∷ rs) [] h = absurd h
-statuses-held S D (r ∷ rs) (k ∷ ks) h = ap (λ x. x ∷ statusesOf rs) (h .0 .status-is) ∙ ap (λ xs. k .status ∷ xs) (statuses-held S D rs ks (h .1))
-
 module _ (m : Memory) (σ : State) (h : Holds m σ) where
   pub holds-statuses : statusesOf (items (m .scopes)) ≡ statuses (σ .scopes)
-  holds-statuses = statuses-held (items (m .scopes)) (items (m .declarations)) (items (m .scopes)) (σ .scopes) (h .chained .held)
+  holds-statuses = statuses-are (items (m .scopes)) (items (m .declarations)) (items (m .scopes)) (σ .scopes) (h .chained .held)
 
   pub holds-rows : RowsSound m
   holds-rows =
@@ -248,7 +239,7 @@ module _ (m : Memory) (σ : State) (h : Holds m σ) where
 
   pub holds-scopes : ScopesSound m
   holds-scopes =
-      let dependencies : length (σ .rows .dependencies) ≡ m .dependencies .count = ap (λ (w : Rows). length (w .dependencies)) (sym (h .rows)) ∙ items-length (m .dependencies) (h .counts .dependencies) in
+      let dependencies : length (σ .rows .dependencies) ≡ m .dependencies .count = ap (λ (w : Rows). length (w .dependencies)) (sym (h .rows)) ∙ items-many (m .dependencies) (h .counts .dependencies) in
       let declarations : length (σ .rows .declarations) ≡ length (items (m .declarations)) = ap (λ (w : Rows). length (w .declarations)) (sym (h .rows)) ∙ length-map (items (m .declarations)) declarationOf in
       (σ .scopes, h .chained, subst (λ (n : ℕ). ScopesKept (σ .scopes) n (length (items (m .declarations)))) dependencies (subst (λ (n : ℕ). ScopesKept (σ .scopes) (length (σ .rows .dependencies)) n) declarations (h .formed .scopes)))
 
@@ -259,8 +250,8 @@ module _ (m : Memory) (σ : State) (h : Holds m σ) where
 pub sound-from : (m : Memory) → Within m → RowsSound m → ScopesSound m → TreeSound m → Sound m
 sound-from m in′ r s t =
     let ss = s .0 in
-    let same : statusesOf (items (m .scopes)) ≡ statuses ss = statuses-held (items (m .scopes)) (items (m .declarations)) (items (m .scopes)) ss (s .1 .held) in
-    let dependencies : m .dependencies .count ≡ length (items (m .dependencies)) = sym (items-length (m .dependencies) (in′ .dependencies)) in
+    let same : statusesOf (items (m .scopes)) ≡ statuses ss = statuses-are (items (m .scopes)) (items (m .declarations)) (items (m .scopes)) ss (s .1 .held) in
+    let dependencies : m .dependencies .count ≡ length (items (m .dependencies)) = sym (items-many (m .dependencies) (in′ .dependencies)) in
     let declarations : length (items (m .declarations)) ≡ length (map declarationOf (items (m .declarations))) = sym (length-map (items (m .declarations)) declarationOf) in
     let planted : Planted (items (m .nodes)) (statuses ss) (m .innermost) (t .0) (t .1) = subst (λ (x : List Status). Planted (items (m .nodes)) x (m .innermost) (t .0) (t .1)) same (t .2) in
     (record { rows = rowsOf m; scopes = ss; tree = t .0; opened = t .1 },

@@ -29,7 +29,8 @@ use Rattle.sheet.specs.Kept.{Long, RestKept}
 use Rattle.sheet.specs.Takes.{Takes}
 use Rattle.sheet.proofs.Planting.{planted-once}
 use Rattle.sheet.proofs.Listing.{named-by-rows}
-use Rattle.sheet.proofs.Sounding.{items-length, holds-rows, holds-fitted, node-scopes}
+use Rattle.sheet.proofs.Storing.{items-many}
+use Rattle.sheet.proofs.Sounding.{holds-rows, holds-fitted, node-scopes}
 
 -- where the Scopes end, by their rows
 pub ends-held : (S : List ScopeRow) (D : List DeclarationRow) (rs : List ScopeRow) (ss : List Scope) → ScopesHeld S D rs ss → endsOf rs ≡ map (λ k. k .end) ss
@@ -54,7 +55,7 @@ module _ (m : Memory) (σ : State) (h : Holds m σ) where
        λ k i. named-by-rows (items (m .nodes)) 4294967295 (length (items (m .scopes))) (body (σ .tree)) (h .planted .links) (node-scopes m (h .counts) (holds-rows m σ h)) k (omega arith))
 
   pub few-nodes : length (items (m .nodes)) ≤ 1024
-  few-nodes = omega (arith, items-length (m .nodes) (h .counts .nodes), holds-fitted m σ h .nodes)
+  few-nodes = omega (arith, items-many (m .nodes) (h .counts .nodes), holds-fitted m σ h .nodes)
 
   -- the lines that are written are those of the sheet
   pub lines-held : linesOf (endsOf (items (m .scopes))) 1 (σ .tree) ≡ listing σ

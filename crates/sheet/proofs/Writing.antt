@@ -49,7 +49,7 @@ use Rattle.sheet.proofs.Storing.{items-many, pushed-items, pushed-within, chan
 use Rattle.screen.proofs.StandingGrown.{isScope}
 use Rattle.sheet.proofs.Planting.{appended-nodes, planted-add, planted-open, planted-scope}
 use Rattle.sheet.proofs.Climbing.{innermost-within, only-body, planted-close}
-use Rattle.sheet.proofs.Accepting.{Accepted, accepted}
+use Rattle.screen.proofs.Accepting.{Accepted, accepted}
 use Rattle.sheet.proofs.Holding.{blank, chained-new, chained-changed}
 use Rattle.sheet.proofs.Declaring.{linked, chained-first, chained-next}
 use Rattle.sheet.proofs.Ending.{end-low}

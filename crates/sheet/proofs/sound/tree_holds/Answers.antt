@@ -7,7 +7,8 @@ use Rattle.sheet.specs.declared.rows.NodeRow.{NodeRow}
 use Rattle.sheet.specs.Tables.{items, memory}
 use Rattle.sheet.specs.Listed.{ScopeBelow}
 use Rattle.sheet.specs.Fitting.{nodeAt}
-use Rattle.sheet.proofs.Sounding.{items-length, node-scopes, some-node, body-node}
+use Rattle.sheet.proofs.Storing.{items-many}
+use Rattle.sheet.proofs.Sounding.{node-scopes, some-node, body-node}
 use Rattle.sheet.proofs.sound.tree_holds.Needs as need
 
 pub tree-sound-requires : need.tree-sound-requires
@@ -19,8 +20,8 @@ tree-sound-requires c κs =
     record {
       few =
         (omega (arith, nodes, some-node m in′ (c .pre .rows)),
-         omega (arith, nodes, items-length (m .nodes) (in′ .nodes), c .pre .fitted .nodes),
-         omega (arith, scopes, items-length (m .scopes) (in′ .scopes), c .pre .fitted .scopes));
+         omega (arith, nodes, items-many (m .nodes) (in′ .nodes), c .pre .fitted .nodes),
+         omega (arith, scopes, items-many (m .scopes) (in′ .scopes), c .pre .fitted .scopes));
       named = λ k h.
           subst (λ (n : ℕ). ScopeBelow n (nodeAt (c .put .result .now) k)) (sym scopes)
           (subst (λ (xs : List NodeRow). ScopeBelow (length (items (m .scopes))) (nodeAt xs k)) (sym (c .put .ensures)) (node-scopes m in′ (c .pre .rows) k (omega (arith, nodes))));
