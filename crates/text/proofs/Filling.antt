@@ -16,13 +16,13 @@ use Rattle.text.proofs.Rows.{put-next, row-length}
 
 -- numbers and their bytes
 
-two-back : (n : ℕ) → n < 65536 → n % 256 + n / 256 % 256 * 256 ≡ n
+pub two-back : (n : ℕ) → n < 65536 → n % 256 + n / 256 % 256 * 256 ≡ n
 two-back n h = omega arith
 
 four-sum : (n a b c w x y z : ℕ) → a * 256 + w ≡ n → b * 256 + x ≡ a → c * 256 + y ≡ b → z ≡ c → w + x * 256 + y * 65536 + z * 16777216 ≡ n
 four-sum n a b c w x y z e f g h = omega arith
 
-four-back : (n : ℕ) → n < 4294967296 → n % 256 + n / 256 % 256 * 256 + n / 65536 % 256 * 65536 + n / 16777216 % 256 * 16777216 ≡ n
+pub four-back : (n : ℕ) → n < 4294967296 → n % 256 + n / 256 % 256 * 256 + n / 65536 % 256 * 65536 + n / 16777216 % 256 * 16777216 ≡ n
 four-back n h =
     let b : n / 256 / 256 ≡ n / 65536 = div-div-eq-div-mul n 256 256 in
     let c : n / 65536 / 256 ≡ n / 16777216 = div-div-eq-div-mul n 65536 256 in
@@ -165,3 +165,7 @@ records-in number rs h less =
     ap (λ n. recordsFrom (blockOf number rs) 0 n) (count-in number rs h less)
     ∙ ap (λ b. recordsFrom b 0 (length rs)) regroup
     ∙ records-after rs [] (z ++ (f ++ (c ++ (replicate 6 0 ++ rest)))) 0 h refl
+
+pub records-count : (bytes : List ℕ) (i n : ℕ) → length (recordsFrom bytes i n) ≡ n
+records-count bytes i zero = refl
+records-count bytes i (suc n) = ap suc (records-count bytes (i + 1) n)

@@ -6,6 +6,8 @@ use lib.ListN.{length, take, drop}
 use Rattle.std.specs.declared.option.Option.the-variants.{None}
 use Rattle.block.specs.Block.{faultOf, recordsOf}
 use Rattle.text.specs.Filled.{blockOf}
+use Rattle.text.specs.declared.encode.Refusal.{Refusal}
+use Rattle.text.specs.declared.encode.Refusal.the-variants.{Memory, TooMany}
 
 -- how many blocks the records fill, the last one perhaps in part
 abbrev pub blockCount : List (List ℕ) → ℕ
@@ -21,13 +23,18 @@ blocksOf records zero = []
 blocksOf records (suc n) = blocksOf records n ++ blockOf n (portion records n)
 
 -- the records in the first n blocks of some bytes, in order
-abbrev pub recordsIn : List ℕ → ℕ → List (List ℕ)
-recordsIn bytes zero = []
-recordsIn bytes (suc n) = recordsIn bytes n ++ recordsOf (take 512 (drop (512 * n) bytes))
+abbrev pub recordsUpTo : List ℕ → ℕ → List (List ℕ)
+recordsUpTo bytes zero = []
+recordsUpTo bytes (suc n) = recordsUpTo bytes n ++ recordsOf (take 512 (drop (512 * n) bytes))
 
 -- bytes that hold the records: so many whole blocks, each one good at its place, and taking their records out in order gives the records
 pub record Holds (records : List (List ℕ)) (bytes : List ℕ) : Type 0 where
   pub exact : bytes ≡ blocksOf records (blockCount records)
   pub whole : length bytes ≡ 512 * blockCount records
   pub good : (n : ℕ) → n < blockCount records → faultOf (drop (512 * n) bytes) n ≡ None
-  pub same : recordsIn bytes (blockCount records) ≡ records
+  pub same : recordsUpTo bytes (blockCount records) ≡ records
+
+-- why records are refused: they need more blocks than there are numbers of four bytes, or memory ran out, which no record tells
+abbrev pub Refuses : List (List ℕ) → Refusal → Type 0
+Refuses records Memory = Unit {0}
+Refuses records TooMany = 31 * 4294967296 < length records

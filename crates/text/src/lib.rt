@@ -1,5 +1,14 @@
 //! Blocks and records as text, both ways: blocks from records, and records from lines of words.
 
+mod bytes;
+mod decode;
+mod encode;
 mod fill;
 
+pub use bytes::join;
+pub use decode::records_of;
+pub use decode::round_trip;
+pub use encode::fill_blocks;
+pub use encode::Refusal;
+pub use encode::RefusalFromAlloc;
 pub use fill::fill_block;
