@@ -4,6 +4,8 @@ mod bytes;
 mod decode;
 mod encode;
 mod fill;
+mod names;
+mod words;
 
 pub use bytes::join;
 pub use decode::records_of;
@@ -12,3 +14,8 @@ pub use encode::fill_blocks;
 pub use encode::Refusal;
 pub use encode::RefusalFromAlloc;
 pub use fill::fill_block;
+pub use words::Complaint;
+pub use words::ComplaintDisplay;
+pub use words::Expected;
+pub use words::ExpectedDisplay;
+pub use words::Words;
