@@ -5,6 +5,8 @@ mod decode;
 mod encode;
 mod fill;
 mod names;
+mod read;
+mod show;
 mod words;
 
 pub use bytes::join;
@@ -14,6 +16,9 @@ pub use encode::fill_blocks;
 pub use encode::Refusal;
 pub use encode::RefusalFromAlloc;
 pub use fill::fill_block;
+pub use read::read_line;
+pub use show::Line;
+pub use show::LineDisplay;
 pub use words::Complaint;
 pub use words::ComplaintDisplay;
 pub use words::Expected;

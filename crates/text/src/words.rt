@@ -129,6 +129,17 @@ impl<'a> Words<'a> {
         }
     }
 
+    /// A number of four bytes, or none where the line ends.
+    pub fn last_number(&mut self) -> Result<Option<u32>, Complaint<'a>> {
+        match self.next() {
+            None => Ok(None),
+            Some(found) => match found.parse::<u32>() {
+                Ok(number) => Ok(Some(number)),
+                Err(_) => Err(Complaint { found: Some(found), expected: Expected::Number }),
+            },
+        }
+    }
+
     /// A number of two bytes.
     pub fn short_number(&mut self) -> Result<u16, Complaint<'a>> {
         let found = self.some(Expected::ShortNumber)?;
