@@ -1,26 +1,27 @@
-//! Blocks and records as text, both ways: blocks from records, and records from lines of words.
+//! Records as lines of text, both ways, and a block of a file as text.
 
-mod bytes;
-mod decode;
-mod encode;
-mod fill;
+mod lines;
 mod names;
+mod page;
 mod read;
 mod show;
 mod words;
 
-pub use bytes::join;
-pub use decode::records_of;
-pub use decode::round_trip;
-pub use encode::fill_blocks;
-pub use encode::Refusal;
-pub use encode::RefusalFromAlloc;
-pub use fill::fill_block;
+pub use lines::read_text;
+pub use lines::TextError;
+pub use lines::TextErrorDebug;
+pub use lines::TextErrorDisplay;
+pub use lines::TextErrorFromRefusal;
+pub use page::Page;
+pub use page::PageDisplay;
 pub use read::read_line;
 pub use show::Line;
 pub use show::LineDisplay;
 pub use words::Complaint;
+pub use words::ComplaintDebug;
 pub use words::ComplaintDisplay;
+pub use words::ComplaintPartialEq;
 pub use words::Expected;
+pub use words::ExpectedDebug;
 pub use words::ExpectedDisplay;
-pub use words::Words;
+pub use words::ExpectedPartialEq;

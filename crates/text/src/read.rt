@@ -5,7 +5,7 @@ ghost use Rattle.std.specs.Options.{Cases};
 
 use block::Record;
 
-use crate::bytes::join;
+use encode::join;
 use crate::names::NODES;
 use crate::names::PATHS;
 use crate::names::RULES;
