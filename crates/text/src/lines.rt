@@ -8,7 +8,9 @@ use std::fmt;
 use encode::Refusal;
 use crate::read::read_line;
 use crate::words::Complaint;
+use crate::words::ComplaintDebug;
 use crate::words::ComplaintDisplay;
+use crate::words::ComplaintPartialEq;
 
 /// Why a text has no blocks.
 #[derive(Clone, Copy, Debug, PartialEq, Eq)]
