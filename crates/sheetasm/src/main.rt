@@ -5,7 +5,7 @@ use std::io;
 use std::io::Read;
 use std::io::Write;
 
-use text::fill_blocks;
+use encode::fill_blocks;
 use text::read_text;
 use text::TextError;
 use text::TextErrorDisplay;
@@ -27,19 +27,26 @@ fn assemble(heap: Global, text: &str) -> Result<Vec<u8>, TextError<'_>> {
     Ok(fill_blocks(heap, records.as_slice())?)
 }
 
+/// All of standard input as text.
+fn input(rt: &LibcRuntime) -> io::Result<String> {
+    let mut text = String::new(rt.alloc());
+    rt.stdin().read_to_string(&mut text)?;
+    Ok(text)
+}
+
 fn main(rt: LibcRuntime) -> Result<(), Failed> {
-    let heap = rt.alloc();
-    let mut text = String::new(heap);
-    if let Err(error) = rt.stdin().read_to_string(&mut text) {
-        eprintln!(rt, "sheetasm: {error}")?;
-        return Err(Failed);
-    }
-    match assemble(heap, text.as_str()) {
-        Ok(bytes) => rt.stdout().write_all(bytes.as_slice())?,
+    let text = match input(&rt) {
+        Ok(text) => text,
         Err(error) => {
             eprintln!(rt, "sheetasm: {error}")?;
             return Err(Failed);
         }
+    };
+    match assemble(rt.alloc(), text.as_str()) {
+        Ok(bytes) => Ok(rt.stdout().write_all(bytes.as_slice())?),
+        Err(error) => {
+            eprintln!(rt, "sheetasm: {error}")?;
+            Err(Failed)
+        }
     }
-    Ok(())
 }

@@ -31,9 +31,21 @@ fn show_lines(rt: &LibcRuntime, heap: Global, bytes: &[u8]) -> io::Result<bool> 
     Ok(good)
 }
 
-fn main(rt: LibcRuntime) -> Result<(), Failed> {
+/// Shows all of standard input. Answers whether every block is good.
+fn run(rt: &LibcRuntime) -> io::Result<bool> {
     let heap = rt.alloc();
     let mut bytes = Vec::new(heap);
     rt.stdin().read_to_end(&mut bytes)?;
-    if show_lines(&rt, heap, bytes.as_slice())? { Ok(()) } else { Err(Failed) }
+    show_lines(rt, heap, bytes.as_slice())
+}
+
+fn main(rt: LibcRuntime) -> Result<(), Failed> {
+    match run(&rt) {
+        Ok(true) => Ok(()),
+        Ok(false) => Err(Failed),
+        Err(error) => {
+            eprintln!(rt, "sheetshow: {error}")?;
+            Err(Failed)
+        }
+    }
 }
