@@ -7,6 +7,7 @@ mod fill;
 
 pub use blocks::fill_blocks;
 pub use blocks::Refusal;
+pub use blocks::RefusalDebug;
 pub use blocks::RefusalFromAlloc;
 pub use bytes::join;
 pub use decode::records_of;

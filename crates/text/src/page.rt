@@ -1,5 +1,9 @@
 //! A block of a file as the lines of text that are shown for it.
 
+ghost use mathlib.Core.Path.{_≡_};
+ghost use Rattle.std.specs.Vec.{made};
+ghost use Rattle.text.specs.Pages.{Shows, isGood};
+
 use std::alloc::AllocError;
 use std::alloc::Global;
 use std::fmt;
@@ -22,7 +26,9 @@ pub enum Page {
 
 impl Page {
     /// The block that begins with these bytes.
-    pub fn of(heap: Global, bytes: &[u8], place: u64) -> Result<Page, AllocError> {
+    pub fn of(heap: Global, bytes: &[u8], place: u64) -> Result<Page, AllocError>
+        ensures { λ r. ⌜ made r (λ p. Shows (now (bytes .entry)) place p) ⌝ }
+    {
         let Some(unchecked) = Unchecked::new(bytes, place) else {
             return Ok(Page::End);
         };
@@ -37,7 +43,9 @@ impl Page {
     }
 
     /// Whether nothing is wrong with it.
-    pub fn is_good(&self) -> bool {
+    pub fn is_good(&self) -> bool
+        ensures { λ r. ⌜ r ≡ isGood (now (self .entry)) ⌝ }
+    {
         match self {
             Page::Good { .. } | Page::End => true,
             Page::Bad { .. } => false,

@@ -6,6 +6,7 @@ use std::test::*;
 use block::Record;
 use encode::join;
 use text::read_line;
+use text::ComplaintDebug;
 use text::Line;
 use text::LineDisplay;
 

@@ -4,17 +4,16 @@ use std::alloc::Global;
 use std::test::*;
 
 use text::read_line;
+use text::ComplaintDebug;
 use text::ComplaintDisplay;
 
 /// A line is refused with these words.
 fn refused(heap: Global, line: &str, words: &str) -> Result<(), Fail> {
-    match read_line(line) {
-        Ok(_) => Err(Fail::new("the line is understood")),
-        Err(complaint) => {
-            let said = complaint.to_string(heap)?;
-            check(said.as_str() == words)
-        }
-    }
+    let Err(complaint) = read_line(line) else {
+        return Err(Fail::new("the line is understood"));
+    };
+    let said = complaint.to_string(heap)?;
+    check(said.as_str() == words)
 }
 
 #[test]

@@ -8,9 +8,11 @@ use encode::fill_block;
 use encode::fill_blocks;
 use encode::records_of;
 use encode::round_trip;
+use encode::RefusalDebug;
 use text::read_text;
 use text::Page;
 use text::PageDisplay;
+use text::TextErrorDebug;
 use text::TextErrorDisplay;
 
 /// So many Close records.
@@ -66,7 +68,10 @@ fn a_block_written_again(rt: LibcRuntime) -> Result<(), Fail> {
     let heap = rt.alloc();
     let mut bytes = [0; 512];
     fill_block(closes(heap, 3)?.as_slice(), 0, &mut bytes);
-    let block = Unchecked::new(&bytes, 0).ok_or("no block")?.check()?;
+    let unchecked = Unchecked::new(&bytes, 0).ok_or("no block")?;
+    let Ok(block) = unchecked.check() else {
+        return Err(Fail::new("the block is not good"));
+    };
     let mut again = [0; 512];
     let written = round_trip(heap, &block, 0, &mut again);
     let records = records_of(heap, &block);
@@ -80,11 +85,9 @@ fn a_block_written_again(rt: LibcRuntime) -> Result<(), Fail> {
 fn a_text_with_its_bad_line(rt: LibcRuntime) -> Result<(), Fail> {
     let heap = rt.alloc();
     check(read_text(heap, "# top\n\nlist\nclose # end\n")?.len() == 2)?;
-    match read_text(heap, "list\n\nmerge all\n") {
-        Ok(_) => Err(Fail::new("the text is understood")),
-        Err(error) => {
-            let said = error.to_string(heap)?;
-            check(said.as_str() == "line 3: all is not understood, expected list or both")
-        }
-    }
+    let Err(error) = read_text(heap, "list\n\nmerge all\n") else {
+        return Err(Fail::new("the text is understood"));
+    };
+    let said = error.to_string(heap)?;
+    check(said.as_str() == "line 3: all is not understood, expected list or both")
 }
