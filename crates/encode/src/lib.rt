@@ -4,6 +4,7 @@ mod blocks;
 mod bytes;
 mod decode;
 mod fill;
+mod page;
 
 pub use blocks::fill_blocks;
 pub use blocks::Refusal;
@@ -13,3 +14,4 @@ pub use bytes::join;
 pub use decode::records_of;
 pub use decode::round_trip;
 pub use fill::fill_block;
+pub use page::Page;

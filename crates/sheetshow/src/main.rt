@@ -4,8 +4,9 @@ use std::alloc::Global;
 use std::io;
 use std::io::Read;
 
-use text::Page;
-use text::PageDisplay;
+use encode::Page;
+use text::Listing;
+use text::ListingDisplay;
 
 /// The bytes of a block.
 const SIZE: usize = 512;
@@ -25,7 +26,7 @@ fn show_lines(rt: &LibcRuntime, heap: Global, bytes: &[u8]) -> io::Result<bool> 
     let mut good = true;
     for (place, part) in bytes.chunks(SIZE).enumerate() {
         let page = Page::of(heap, part, place as u64)?;
-        print!(rt, "{page}")?;
+        rt.print(Listing(&page))?;
         good &= page.is_good();
     }
     Ok(good)

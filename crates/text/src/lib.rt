@@ -1,8 +1,8 @@
 //! Records as lines of text, both ways, and a block of a file as text.
 
 mod lines;
+mod listing;
 mod names;
-mod page;
 mod read;
 mod show;
 mod words;
@@ -12,8 +12,8 @@ pub use lines::TextError;
 pub use lines::TextErrorDebug;
 pub use lines::TextErrorDisplay;
 pub use lines::TextErrorFromRefusal;
-pub use page::Page;
-pub use page::PageDisplay;
+pub use listing::Listing;
+pub use listing::ListingDisplay;
 pub use read::read_line;
 pub use show::Line;
 pub use show::LineDisplay;

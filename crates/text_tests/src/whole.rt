@@ -8,10 +8,11 @@ use encode::fill_block;
 use encode::fill_blocks;
 use encode::records_of;
 use encode::round_trip;
+use encode::Page;
 use encode::RefusalDebug;
 use text::read_text;
-use text::Page;
-use text::PageDisplay;
+use text::Listing;
+use text::ListingDisplay;
 use text::TextErrorDebug;
 use text::TextErrorDisplay;
 
@@ -26,9 +27,10 @@ fn closes(heap: Global, count: usize) -> Result<Vec<[u8; 16]>, Fail> {
     Ok(records)
 }
 
-/// The text of a file's first block.
+/// The text of the block that begins with these bytes.
 fn shown(heap: Global, bytes: &[u8], place: u64) -> Result<String, Fail> {
-    Ok(Page::of(heap, bytes, place)?.to_string(heap)?)
+    let page = Page::of(heap, bytes, place)?;
+    Ok(Listing(&page).to_string(heap)?)
 }
 
 #[test]

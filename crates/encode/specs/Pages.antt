@@ -7,8 +7,8 @@ use lib.ListN.{length, take}
 use Rattle.std.specs.Of.Vec.{vec-items}
 use Rattle.std.specs.declared.option.Option.the-variants.{Some, None}
 use Rattle.block.specs.Block.{faultOf, recordsOf}
-use Rattle.text.specs.declared.page.Page.{Page}
-use Rattle.text.specs.declared.page.Page.the-variants.{Good, Bad, End}
+use Rattle.encode.specs.declared.page.Page.{Page}
+use Rattle.encode.specs.declared.page.Page.the-variants.{Good, Bad, End}
 
 -- a page of the bytes where the block of a place should begin: of a good block its records, of another its fault
 abbrev pub Shows : List ℕ → ℕ → Page → Type 0
