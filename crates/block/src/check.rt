@@ -62,7 +62,7 @@ pub struct Checked<'a> {
 }
 
 /// Each byte at the places that are summed, times its place and one more.
-fn check_of(bytes: &[u8]) -> u32
+pub fn check_of(bytes: &[u8]) -> u32
     requires { ⌜ 512 ≤ length (now bytes) ⌝ }
     ensures { λ r. ⌜ r ≡ checkOf (now (bytes .entry)) ⌝ }
 {

@@ -5,6 +5,7 @@ mod check;
 mod cursor;
 mod record;
 
+pub use check::check_of;
 pub use check::Checked;
 pub use check::Fault;
 pub use check::Unchecked;

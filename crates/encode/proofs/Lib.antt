@@ -1,0 +1,4 @@
+mod Rows
+mod Filling
+mod Sequences
+mod Joining
