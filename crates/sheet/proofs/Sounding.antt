@@ -38,7 +38,7 @@ use Rattle.sheet.specs.NodeRows.{nodeRowKept, NodesKept}
 use Rattle.sheet.specs.Links.{row}
 use Rattle.sheet.specs.Listed.{ScopeBelow}
 use Rattle.sheet.specs.Fitting.{nodeAt, ScopesNamed}
-use Rattle.sheet.specs.Examined.{Fitted, plainKept, RowsSound, ScopesSound, TreeSound}
+use Rattle.sheet.specs.Examined.{Fitted, frontKept, middleKept, shapesKept, RowsSound, ScopesSound, TreeSound}
 use Rattle.sheet.proofs.Storing.{items-many}
 use Rattle.sheet.proofs.Accepting.{statuses-are}
 use Rattle.sheet.proofs.Marking.{Plain, plain-fresh, fresh-plain}
@@ -172,34 +172,36 @@ module _ (m : Memory) (in′ : Within m) where
       }
 
   -- every row by itself
-  pub rows-sound-from : Fitted m → plainKept (rowsOf m) (statusesOf (items (m .scopes))) ≡ true → valuesKept (items (m .identifiers)) (items (m .reads)) [] (items (m .values)) ≡ true
-    → every (λ n. leb n 64) (levelsOf (items (m .values))) ≡ true → NodesKept (items (m .identifiers)) (items (m .values)) (statusesOf (items (m .scopes))) (items (m .nodes))
+  pub rows-sound-from : Fitted m → frontKept (rowsOf m) (statusesOf (items (m .scopes))) ≡ true → middleKept (rowsOf m) (statusesOf (items (m .scopes))) ≡ true
+    → valuesKept (items (m .identifiers)) (items (m .reads)) [] (items (m .values)) ≡ true → every (λ n. leb n 64) (levelsOf (items (m .values))) ≡ true
+    → shapesKept (rowsOf m) (statusesOf (items (m .scopes))) ≡ true → NodesKept (items (m .identifiers)) (items (m .values)) (statusesOf (items (m .scopes))) (items (m .nodes))
     → fresh (length (items (m .values))) (replicate 1024 false) (namings (items (m .values)) (nodesOf (items (m .nodes)))) ≡ true → RowsSound m
-  rows-sound-from f plain values levels nodes users =
-      let h5 = first _ _ plain in
-      let h4 = first _ _ h5 in
-      let h3 = first _ _ h4 in
-      let h2 = first _ _ h3 in
-      let h1 = first _ _ h2 in
+  rows-sound-from f front middle values levels shapes nodes users =
       let few : length (items (m .values)) ≤ 1024 = omega (arith, items-many (m .values) (in′ .values), f .values) in
       record {
         kept =
           record {
             fitting = fitted-fits f;
-            types = first _ _ h1;
-            identifiers = second _ _ h1;
-            paths = second _ _ h2;
-            dependencies = second _ _ h3;
-            declarations = second _ _ h4;
-            reads = second _ _ h5;
+            types = first _ _ (first _ _ front);
+            identifiers = second _ _ (first _ _ front);
+            paths = second _ _ front;
+            dependencies = first _ _ (first _ _ middle);
+            declarations = second _ _ (first _ _ middle);
+            reads = second _ _ middle;
             values = values;
             levels = levels;
-            shapes = second _ _ plain;
+            shapes = shapes;
             nodes = nodes .nodes;
             users = fresh-plain (length (items (m .values))) (replicate 1024 false) (namings (items (m .values)) (nodesOf (items (m .nodes)))) (unmarked-rows (length (items (m .values))) 1024 few .room) users .once;
           };
         records = nodes .records;
       }
+
+  pub rows-sound-front : RowsSound m → frontKept (rowsOf m) (statusesOf (items (m .scopes))) ≡ true
+  rows-sound-front r = and-from _ _ (and-from _ _ (r .kept .types) (r .kept .identifiers)) (r .kept .paths)
+
+  pub rows-sound-middle : RowsSound m → middleKept (rowsOf m) (statusesOf (items (m .scopes))) ≡ true
+  rows-sound-middle r = and-from _ _ (and-from _ _ (r .kept .dependencies) (r .kept .declarations)) (r .kept .reads)
 
   pub rows-sound-users : Fitted m → RowsSound m → fresh (length (items (m .values))) (replicate 1024 false) (namings (items (m .values)) (nodesOf (items (m .nodes)))) ≡ true
   rows-sound-users f r =

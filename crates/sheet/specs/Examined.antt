@@ -28,12 +28,20 @@ pub record Fitted (m : Memory) : Type 0 where
   pub shapes : m .shapes .count ≤ 16
   pub nodes : m .nodes .count ≤ 1024
 
--- the rows of the tables but values and nodes keep their records' lists and name put rows
-abbrev pub plainKept : Rows → List Status → Bool
-plainKept w ss =
+-- the types, identifiers and path entries keep their records' lists and name put rows
+abbrev pub frontKept : Rows → List Status → Bool
+frontKept w ss =
     every (λ t. kept w ss (typeRecord t)) (w .types) && every (λ i. kept w ss (identifierRecord i)) (w .identifiers) && every (λ p. kept w ss (pathRecord p)) (w .paths)
-    && every (λ d. kept w ss (dependencyRecord d)) (w .dependencies) && every (λ d. kept w ss (declarationRecord (d .key) (d .declared))) (w .declarations)
-    && every (λ r. kept w ss (readRecord r)) (w .reads) && every (λ s. kept w ss (shapeRecord s)) (w .shapes)
+
+-- the same of dependencies, declarations and reads
+abbrev pub middleKept : Rows → List Status → Bool
+middleKept w ss =
+    every (λ d. kept w ss (dependencyRecord d)) (w .dependencies) && every (λ d. kept w ss (declarationRecord (d .key) (d .declared))) (w .declarations)
+    && every (λ r. kept w ss (readRecord r)) (w .reads)
+
+-- the same of own shapes
+abbrev pub shapesKept : Rows → List Status → Bool
+shapesKept w ss = every (λ s. kept w ss (shapeRecord s)) (w .shapes)
 
 -- every row by itself, and who uses the values
 pub record RowsSound (m : Memory) : Type 0 where

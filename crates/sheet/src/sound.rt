@@ -18,7 +18,7 @@ ghost use Rattle.sheet.specs.Holds.{declarationOf, rowsOf, Within, Sound};
 ghost use Rattle.sheet.specs.Kept.{Long};
 ghost use Rattle.sheet.specs.NodeRows.{NodesKept};
 ghost use Rattle.sheet.specs.Walks.{fresh};
-ghost use Rattle.sheet.specs.Examined.{Fitted, plainKept, RowsSound, ScopesSound, TreeSound};
+ghost use Rattle.sheet.specs.Examined.{Fitted, frontKept, middleKept, shapesKept, RowsSound, ScopesSound, TreeSound};
 
 mod nodes;
 mod open;
@@ -69,18 +69,28 @@ fn declarations_kept(s: &Sheet<'_>) -> bool
     rows_kept(s, s.declarations.put())
 }
 
-/// Whether the rows of all tables but values and nodes keep their records' lists and name rows that are put.
-fn plain_rows_kept(s: &Sheet<'_>) -> bool
+/// Whether the types, identifiers and path entries keep their records' lists and name rows that are put.
+fn front_rows_kept(s: &Sheet<'_>) -> bool
     requires { ⌜ Within (memory (now s)) ⌝ }
-    ensures { λ r. ⌜ r ≡ plainKept (rowsOf (memory (now (s .entry)))) (statusesOf (items (memory (now (s .entry)) .scopes))) ⌝ }
+    ensures { λ r. ⌜ r ≡ frontKept (rowsOf (memory (now (s .entry)))) (statusesOf (items (memory (now (s .entry)) .scopes))) ⌝ }
 {
-    rows_kept(s, s.types.put())
-        && rows_kept(s, s.identifiers.put())
-        && rows_kept(s, s.paths.put())
-        && rows_kept(s, s.dependencies.put())
-        && declarations_kept(s)
-        && rows_kept(s, s.reads.put())
-        && rows_kept(s, s.shapes.put())
+    rows_kept(s, s.types.put()) && rows_kept(s, s.identifiers.put()) && rows_kept(s, s.paths.put())
+}
+
+/// The same of dependencies, declarations and reads.
+fn middle_rows_kept(s: &Sheet<'_>) -> bool
+    requires { ⌜ Within (memory (now s)) ⌝ }
+    ensures { λ r. ⌜ r ≡ middleKept (rowsOf (memory (now (s .entry)))) (statusesOf (items (memory (now (s .entry)) .scopes))) ⌝ }
+{
+    rows_kept(s, s.dependencies.put()) && declarations_kept(s) && rows_kept(s, s.reads.put())
+}
+
+/// The same of own shapes.
+fn shapes_kept(s: &Sheet<'_>) -> bool
+    requires { ⌜ Within (memory (now s)) ⌝ }
+    ensures { λ r. ⌜ r ≡ shapesKept (rowsOf (memory (now (s .entry)))) (statusesOf (items (memory (now (s .entry)) .scopes))) ⌝ }
+{
+    rows_kept(s, s.shapes.put())
 }
 
 /// Whether the values' rows keep their lists and name rows that are put, their children among the values before them.
@@ -118,27 +128,6 @@ fn users_apart(s: &Sheet<'_>) -> bool
     one_user_each(s.values.put(), s.nodes.put())
 }
 
-/// Whether every row is as it should be by itself, and each value has one user at most.
-fn rows_sound(s: &Sheet<'_>) -> bool
-    requires within { ⌜ Within (memory (now s)) ⌝ }
-    requires fitted { ⌜ Fitted (memory (now s)) ⌝ }
-    ensures { λ r. ⌜ Decides r (RowsSound (memory (now (s .entry)))) ⌝ }
-{
-    if !plain_rows_kept(s) {
-        return false;
-    }
-    if !value_rows_kept(s) {
-        return false;
-    }
-    if !levels_fit(s) {
-        return false;
-    }
-    if !node_rows_kept(s) {
-        return false;
-    }
-    users_apart(s)
-}
-
 /// Whether the Scopes' rows and their lists are as they should be.
 fn scopes_hold(s: &Sheet<'_>) -> bool
     requires within { ⌜ Within (memory (now s)) ⌝ }
@@ -159,7 +148,7 @@ fn tree_holds(s: &Sheet<'_>) -> bool
 }
 
 impl Sheet<'_> {
-    /// Whether the tables are sound.
+    /// Whether the tables are sound. They are gone through in the order of their records' tags, the nodes last.
     pub(crate) fn is_sound(&self) -> bool
         requires { ⌜ Long (memory (now self)) ⌝ }
         ensures { λ r. ⌜ Decides r (Sound (memory (now (self .entry)))) ⌝ }
@@ -167,10 +156,28 @@ impl Sheet<'_> {
         if !counts_fit(self) {
             return false;
         }
-        if !rows_sound(self) {
+        if !front_rows_kept(self) {
             return false;
         }
         if !scopes_hold(self) {
+            return false;
+        }
+        if !middle_rows_kept(self) {
+            return false;
+        }
+        if !value_rows_kept(self) {
+            return false;
+        }
+        if !levels_fit(self) {
+            return false;
+        }
+        if !shapes_kept(self) {
+            return false;
+        }
+        if !node_rows_kept(self) {
+            return false;
+        }
+        if !users_apart(self) {
             return false;
         }
         tree_holds(self)

@@ -14,7 +14,7 @@ pub struct Table<'a, T> {
 
 impl<'a, T: Copy> Table<'a, T> {
     /// The rows that are put.
-    pub fn put(&self) -> &[T]
+    pub(crate) fn put(&self) -> &[T]
         requires { ⌜ now self .count ≤ length (now (now self .rows)) ⌝ }
         ensures { λ r. ⌜ now r ≡ items (stored (now (self .entry))) ⌝ }
     {
@@ -24,7 +24,7 @@ impl<'a, T: Copy> Table<'a, T> {
     }
 
     /// Puts one more row.
-    pub fn push(&mut self, row: T)
+    pub(crate) fn push(&mut self, row: T)
         requires room { ⌜ now self .count < length (now (now self .rows)) ⌝ }
         requires few { ⌜ now self .count < 1024 ⌝ }
         ensures rows { λ _. ⌜ now (now (self .exit) .rows) ≡ set (now (now (self .entry) .rows)) (now (self .entry) .count) row ⌝ }

@@ -97,6 +97,7 @@ impl Sheet<'_> {
         ensures takes { λ r. ⌜ (AllLong (memory (now (self .entry))) (workMemory (now (work .entry))) → (σ : State) → Holds (memory (now (self .entry))) σ
           → Takes σ (fieldsOf «record») (memory (now (self .exit))) (workMemory (now (work .entry))) (workMemory (now (work .exit))) r) ⌝ }
         ensures keeps { λ r. ⌜ Keeps (memory (now (self .entry))) (memory (now (self .exit))) (workMemory (now (work .entry))) (workMemory (now (work .exit))) r ⌝ }
+        ensures ready { λ _. ⌜ (Ready (memory (now (self .entry))) (workMemory (now (work .entry))) → Ready (memory (now (self .exit))) (workMemory (now (work .exit)))) ⌝ }
     {
         if !is_long(self) {
             return Err(Refusal::Short);
