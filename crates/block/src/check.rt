@@ -9,7 +9,6 @@ ghost use Rattle.std.specs.Options.{Cases as BySome};
 ghost use Rattle.std.specs.declared.option.Option.the-variants.{Some, None};
 ghost use Rattle.block.specs.Block.{checkOf, faultIn, faultOf, faultNumber};
 ghost use Rattle.block.specs.Left.{left, recordsIn, Sealed};
-
 use crate::bytes::u16_at;
 use crate::bytes::u32_at;
 use crate::cursor::Cursor;
@@ -103,7 +102,7 @@ impl<'a> Unchecked<'a> {
     /// Spends the unchecked block for a checked one, or says what is wrong with it.
     pub fn check(self) -> Result<Checked<'a>, Fault>
         ensures { λ r. ⌜ Cases r (λ b. (faultOf (now (self .entry .bytes)) (self .entry .place) ≡ None) × Sealed (now (self .entry .bytes)) (self .entry .place) b)
-          (λ f. faultOf (now (self .entry .bytes)) (self .entry .place) ≡ Some f) ⌝ }
+            (λ f. faultOf (now (self .entry .bytes)) (self .entry .place) ≡ Some f) ⌝ }
     {
         let Some((bytes, _)) = self.bytes.split_first_chunk::<SIZE>() else {
             return Err(Fault::Short);
@@ -111,7 +110,11 @@ impl<'a> Unchecked<'a> {
         if let Some(fault) = fault_in(bytes, self.place) {
             return Err(fault);
         }
-        Ok(Checked { bytes, number: u32_at(bytes, 496), count: u16_at(bytes, 500) })
+        Ok(Checked {
+            bytes,
+            number: u32_at(bytes, 496),
+            count: u16_at(bytes, 500),
+        })
     }
 }
 
@@ -127,7 +130,11 @@ impl<'a> Checked<'a> {
     pub fn next_place(self) -> u64
         ensures { λ r. ⌜ r ≡ self .entry .number + 1 ⌝ }
     {
-        let Checked { bytes: _, number, count: _ } = self;
+        let Checked {
+            bytes: _,
+            number,
+            count: _,
+        } = self;
         u64::from(number) + 1
     }
 }

@@ -25,7 +25,11 @@ impl<'a> Cursor<'a> {
     pub(crate) fn new(bytes: &'a [u8; 512], count: u16) -> Cursor<'a>
         ensures { λ r. ⌜ left r ≡ recordsFrom (now (bytes .entry)) 0 (min 31 count) ⌝ }
     {
-        Cursor { bytes, at: 0, count }
+        Cursor {
+            bytes,
+            at: 0,
+            count,
+        }
     }
 
     /// The next record, or none after the last.

@@ -57,8 +57,13 @@ pub summed-length : (number : ℕ) (rs : List (List ℕ)) → Sixteens rs → le
 unfolding summedOf
 summed-length number rs h less =
     let b = body rs in
-    omega (arith, body-length rs h less, length-append b (fourBytes number), length-append (b ++ fourBytes number) (twoBytes (length rs)),
-      length-append (b ++ fourBytes number ++ twoBytes (length rs)) (replicate 6 0))
+    omega (
+      arith,
+      body-length rs h less,
+      length-append b (fourBytes number),
+      length-append (b ++ fourBytes number) (twoBytes (length rs)),
+      length-append (b ++ fourBytes number ++ twoBytes (length rs)) (replicate 6 0),
+    )
 
 pub block-length : (number : ℕ) (rs : List (List ℕ)) → Sixteens rs → length rs ≤ 31 → length (blockOf number rs) ≡ 512
 unfolding blockOf
@@ -67,16 +72,16 @@ block-length number rs h less =
 
 -- the same bytes, put one part after the other
 pub put-number : (rs : List (List ℕ)) (number : ℕ) (bytes : List ℕ) → Sixteens rs → length rs ≤ 31 → bytes ≡ inRow rs ++ replicate (512 - 16 * length rs) 0 →
-  take 496 bytes ++ (fourBytes number ++ drop (496 + length (fourBytes number)) bytes) ≡ body rs ++ fourBytes number ++ replicate 12 0
+    take 496 bytes ++ (fourBytes number ++ drop (496 + length (fourBytes number)) bytes) ≡ body rs ++ fourBytes number ++ replicate 12 0
 put-number rs number bytes h less e =
     let n : 496 - 16 * length rs + 16 ≡ 512 - 16 * length rs = omega arith in
     let same : bytes ≡ body rs ++ replicate 16 0 =
-      e ∙ ap (λ z. inRow rs ++ z) (ap (λ k. replicate k 0) (sym n) ∙ sym (replicate-append-replicate (496 - 16 * length rs) 16 0)) ∙ sym (append-assoc (inRow rs) (replicate (496 - 16 * length rs) 0) (replicate 16 0)) in
+    e ∙ ap (λ z. inRow rs ++ z) (ap (λ k. replicate k 0) (sym n) ∙ sym (replicate-append-replicate (496 - 16 * length rs) 16 0)) ∙ sym (append-assoc (inRow rs) (replicate (496 - 16 * length rs) 0) (replicate 16 0)) in
     ap (λ b. take 496 b ++ (fourBytes number ++ drop (496 + length (fourBytes number)) b)) same
     ∙ put-next (body rs) (fourBytes number) 496 16 (body-length rs h less)
 
 pub put-count : (rs : List (List ℕ)) (number : ℕ) (bytes : List ℕ) → Sixteens rs → length rs ≤ 31 → bytes ≡ body rs ++ fourBytes number ++ replicate 12 0 →
-  take 500 bytes ++ (twoBytes (length rs) ++ drop (500 + length (twoBytes (length rs))) bytes) ≡ summedOf number rs ++ replicate 4 0
+    take 500 bytes ++ (twoBytes (length rs) ++ drop (500 + length (twoBytes (length rs))) bytes) ≡ summedOf number rs ++ replicate 4 0
 unfolding summedOf
 put-count rs number bytes h less e =
     let b = body rs ++ fourBytes number in
@@ -90,7 +95,7 @@ unfolding checkOf
 check-before number rs more h less = ap (weighed 0) (take-at (summedOf number rs) more 508 (summed-length number rs h less))
 
 pub put-check : (rs : List (List ℕ)) (number check : ℕ) (bytes : List ℕ) → Sixteens rs → length rs ≤ 31 → bytes ≡ summedOf number rs ++ replicate 4 0 → check ≡ checkOf bytes →
-  take 508 bytes ++ (fourBytes check ++ drop (508 + length (fourBytes check)) bytes) ≡ blockOf number rs
+    take 508 bytes ++ (fourBytes check ++ drop (508 + length (fourBytes check)) bytes) ≡ blockOf number rs
 unfolding blockOf
 put-check rs number check bytes h less e same =
     let s = summedOf number rs in
@@ -118,8 +123,8 @@ number-in number rs h less small =
     let c = twoBytes (length rs) in
     let rest = fourBytes (weighed 0 (b ++ fourBytes number ++ c ++ replicate 6 0)) in
     ap (λ z. u32At z 496)
-      (append-assoc (b ++ fourBytes number ++ c) (replicate 6 0) rest ∙ append-assoc (b ++ fourBytes number) c (replicate 6 0 ++ rest)
-       ∙ append-assoc b (fourBytes number) (c ++ (replicate 6 0 ++ rest)))
+    (append-assoc (b ++ fourBytes number ++ c) (replicate 6 0) rest ∙ append-assoc (b ++ fourBytes number) c (replicate 6 0 ++ rest)
+    ∙ append-assoc b (fourBytes number) (c ++ (replicate 6 0 ++ rest)))
     ∙ u32-after b (c ++ (replicate 6 0 ++ rest)) 496 number (body-length rs h less) small
 
 pub check-in : (number : ℕ) (rs : List (List ℕ)) → Sixteens rs → length rs ≤ 31 → weighed 0 (summedOf number rs) < 4294967296 → checkIn (blockOf number rs) ≡ checkOf (blockOf number rs)

@@ -17,7 +17,7 @@ abbrev pub sixteen : Record → List ℕ
 sixteen x = x .tag ∷ x .p ∷ (twoBytes (x .q) ++ (fourBytes (x .r) ++ (fourBytes (x .s) ++ fourBytes (x .t))))
 
 pub from-parts : (x : Record) (a b d e : List ℕ) → a ≡ twoBytes (x .q) → b ≡ fourBytes (x .r) → d ≡ fourBytes (x .s) → e ≡ fourBytes (x .t) →
-  x .tag ∷ x .p ∷ getD a 0 0 ∷ getD a 1 0 ∷ getD b 0 0 ∷ getD b 1 0 ∷ getD b 2 0 ∷ getD b 3 0 ∷ getD d 0 0 ∷ getD d 1 0 ∷ getD d 2 0 ∷ getD d 3 0 ∷ getD e 0 0 ∷ getD e 1 0 ∷ getD e 2 0 ∷ getD e 3 0 ∷ [] ≡ sixteen x
+    x .tag ∷ x .p ∷ getD a 0 0 ∷ getD a 1 0 ∷ getD b 0 0 ∷ getD b 1 0 ∷ getD b 2 0 ∷ getD b 3 0 ∷ getD d 0 0 ∷ getD d 1 0 ∷ getD d 2 0 ∷ getD d 3 0 ∷ getD e 0 0 ∷ getD e 1 0 ∷ getD e 2 0 ∷ getD e 3 0 ∷ [] ≡ sixteen x
 from-parts x a b d e f g h k =
     let four : List ℕ → List ℕ → List ℕ = λ y z. getD y 0 0 ∷ getD y 1 0 ∷ getD y 2 0 ∷ getD y 3 0 ∷ z in
     ap (λ y. x .tag ∷ x .p ∷ getD y 0 0 ∷ getD y 1 0 ∷ four b (four d (four e []))) f
@@ -87,6 +87,6 @@ join-split bytes e h =
     let x = fieldsOf bytes in
     placed 16 bytes e
     ∙ sym (ap (λ z. rest (z ++ (fourBytes (x .r) ++ (fourBytes (x .s) ++ fourBytes (x .t))))) (two-bytes (g 2) (g 3) (at 2 (omega arith)) (at 3 (omega arith)))
-      ∙ ap (λ z. rest (g 2 ∷ g 3 ∷ (z ++ (fourBytes (x .s) ++ fourBytes (x .t))))) (four-bytes (g 4) (g 5) (g 6) (g 7) (at 4 (omega arith)) (at 5 (omega arith)) (at 6 (omega arith)) (at 7 (omega arith)))
-      ∙ ap (λ z. rest (g 2 ∷ g 3 ∷ g 4 ∷ g 5 ∷ g 6 ∷ g 7 ∷ (z ++ fourBytes (x .t)))) (four-bytes (g 8) (g 9) (g 10) (g 11) (at 8 (omega arith)) (at 9 (omega arith)) (at 10 (omega arith)) (at 11 (omega arith)))
-      ∙ ap (λ z. rest (g 2 ∷ g 3 ∷ g 4 ∷ g 5 ∷ g 6 ∷ g 7 ∷ g 8 ∷ g 9 ∷ g 10 ∷ g 11 ∷ z)) (four-bytes (g 12) (g 13) (g 14) (g 15) (at 12 (omega arith)) (at 13 (omega arith)) (at 14 (omega arith)) (at 15 (omega arith))))
+    ∙ ap (λ z. rest (g 2 ∷ g 3 ∷ (z ++ (fourBytes (x .s) ++ fourBytes (x .t))))) (four-bytes (g 4) (g 5) (g 6) (g 7) (at 4 (omega arith)) (at 5 (omega arith)) (at 6 (omega arith)) (at 7 (omega arith)))
+    ∙ ap (λ z. rest (g 2 ∷ g 3 ∷ g 4 ∷ g 5 ∷ g 6 ∷ g 7 ∷ (z ++ fourBytes (x .t)))) (four-bytes (g 8) (g 9) (g 10) (g 11) (at 8 (omega arith)) (at 9 (omega arith)) (at 10 (omega arith)) (at 11 (omega arith)))
+    ∙ ap (λ z. rest (g 2 ∷ g 3 ∷ g 4 ∷ g 5 ∷ g 6 ∷ g 7 ∷ g 8 ∷ g 9 ∷ g 10 ∷ g 11 ∷ z)) (four-bytes (g 12) (g 13) (g 14) (g 15) (at 12 (omega arith)) (at 13 (omega arith)) (at 14 (omega arith)) (at 15 (omega arith))))

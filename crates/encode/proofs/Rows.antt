@@ -14,11 +14,11 @@ Told xs = (i : ℕ) → i < length xs → length (getD xs i []) ≡ 16
 
 -- a part put after what is written so far, where zeros stand
 pub put-next : (p part : List ℕ) (at n : ℕ) → length p ≡ at →
-  take at (p ++ replicate n 0) ++ (part ++ drop (at + length part) (p ++ replicate n 0)) ≡ (p ++ part) ++ replicate (n - length part) 0
+    take at (p ++ replicate n 0) ++ (part ++ drop (at + length part) (p ++ replicate n 0)) ≡ (p ++ part) ++ replicate (n - length part) 0
 put-next p part at n e =
     let front : take at (p ++ replicate n 0) ≡ p = take-at p (replicate n 0) at e in
     let back : drop (at + length part) (p ++ replicate n 0) ≡ replicate (n - length part) 0 =
-      sym (drop-drop (length part) at (p ++ replicate n 0)) ∙ ap (drop (length part)) (drop-at p (replicate n 0) at e) ∙ drop-replicate (length part) n 0 in
+    sym (drop-drop (length part) at (p ++ replicate n 0)) ∙ ap (drop (length part)) (drop-at p (replicate n 0) at e) ∙ drop-replicate (length part) n 0 in
     ap (λ x. x ++ (part ++ drop (at + length part) (p ++ replicate n 0))) front
     ∙ ap (λ x. p ++ (part ++ x)) back
     ∙ sym (append-assoc p part (replicate (n - length part) 0))

@@ -40,20 +40,21 @@ block-at xs h (suc n) k less =
     let front = blocksOf xs n in
     let last = blockOf n (portion xs n) in
     elim (below-last n k less) [
-      inl a ↦
-        let long : 512 * k + 512 ≤ length front = omega (arith, blocks-length xs h n) in
-        let room : 512 ≤ length (drop (512 * k) front) = omega (arith, length-drop (512 * k) front) in
-        ap (take 512) (drop-append-le (512 * k) front last (omega arith)) ∙ take-append-le 512 (drop (512 * k) front) last room ∙ block-at xs h n k a
-    | inr e ↦
-        let long : length front ≡ 512 * k = omega (arith, blocks-length xs h n) in
-        ap (take 512) (drop-at front last (512 * k) long) ∙ take-all 512 last (omega (arith, block-long xs n h)) ∙ ap (λ m. blockOf m (portion xs m)) (sym e) ]
+      | inl a ↦
+          let long : 512 * k + 512 ≤ length front = omega (arith, blocks-length xs h n) in
+          let room : 512 ≤ length (drop (512 * k) front) = omega (arith, length-drop (512 * k) front) in
+          ap (take 512) (drop-append-le (512 * k) front last (omega arith)) ∙ take-append-le 512 (drop (512 * k) front) last room ∙ block-at xs h n k a
+      | inr e ↦
+          let long : length front ≡ 512 * k = omega (arith, blocks-length xs h n) in
+          ap (take 512) (drop-at front last (512 * k) long) ∙ take-all 512 last (omega (arith, block-long xs n h)) ∙ ap (λ m. blockOf m (portion xs m)) (sym e)
+    ]
 
 -- the records in the first k of n blocks
 records-to : (xs : List (List ℕ)) → Sixteens xs → (n k : ℕ) → k ≤ n → recordsUpTo (blocksOf xs n) k ≡ take (31 * k) xs
 records-to xs h n zero less = refl
 records-to xs h n (suc k) less =
     let got : recordsOf (take 512 (drop (512 * k) (blocksOf xs n))) ≡ portion xs k =
-      ap recordsOf (block-at xs h n k (omega arith)) ∙ records-in k (portion xs k) (portion-sixteens xs k h) (portion-few xs k) in
+    ap recordsOf (block-at xs h n k (omega arith)) ∙ records-in k (portion xs k) (portion-sixteens xs k h) (portion-few xs k) in
     ap (λ z. z ++ recordsOf (take 512 (drop (512 * k) (blocksOf xs n)))) (records-to xs h n k (omega arith))
     ∙ ap (λ z. take (31 * k) xs ++ z) got
     ∙ sym (take-add (31 * k) 31 xs)
@@ -64,7 +65,7 @@ fault-at : (bytes block : List ℕ) (place : ℕ) → 512 ≤ length bytes → t
 fault-at bytes block place h e long good = let whole : take 512 block ≡ block = take-all 512 block (omega arith) in grind (arith, tells)
 
 pub holds : (xs : List (List ℕ)) (bytes : List ℕ) → Sixteens xs → bytes ≡ blocksOf xs (blockCount xs) →
-  ((n : ℕ) → n < blockCount xs → faultOf (blockOf n (portion xs n)) n ≡ None) → Holds xs bytes
+    ((n : ℕ) → n < blockCount xs → faultOf (blockOf n (portion xs n)) n ≡ None) → Holds xs bytes
 holds xs bytes h e good =
     let count = blockCount xs in
     let long : length bytes ≡ 512 * count = ap length e ∙ blocks-length xs h count in
@@ -72,7 +73,7 @@ holds xs bytes h e good =
       exact = e;
       whole = long;
       good = λ n less.
-        let room : 512 ≤ length (drop (512 * n) bytes) = omega (arith, length-drop (512 * n) bytes) in
-        fault-at (drop (512 * n) bytes) (blockOf n (portion xs n)) n room (ap (λ b. take 512 (drop (512 * n) b)) e ∙ block-at xs h count n less) (block-long xs n h) (good n less);
-      same = ap (λ b. recordsUpTo b count) e ∙ records-to xs h count count (omega arith) ∙ take-all (31 * count) xs (omega arith)
+          let room : 512 ≤ length (drop (512 * n) bytes) = omega (arith, length-drop (512 * n) bytes) in
+          fault-at (drop (512 * n) bytes) (blockOf n (portion xs n)) n room (ap (λ b. take 512 (drop (512 * n) b)) e ∙ block-at xs h count n less) (block-long xs n h) (good n less);
+      same = ap (λ b. recordsUpTo b count) e ∙ records-to xs h count count (omega arith) ∙ take-all (31 * count) xs (omega arith);
     }

@@ -5,12 +5,10 @@ ghost use Rattle.std.specs.Of.Vec.{vec-items};
 ghost use Rattle.std.specs.Results.{Cases};
 ghost use Rattle.encode.specs.Files.{Holds, Refuses};
 ghost use Rattle.encode.specs.declared.blocks.Refusal.the-variants.{Memory};
-
+use crate::fill::MOST;
+use crate::fill::fill_block;
 use std::alloc::AllocError;
 use std::alloc::Global;
-
-use crate::fill::fill_block;
-use crate::fill::MOST;
 
 /// The most records that blocks with numbers of four bytes hold.
 const LIMIT: usize = 31 * 4294967296;
@@ -43,7 +41,11 @@ pub fn fill_blocks(heap: Global, records: &[[u8; 16]]) -> Result<Vec<u8>, Refusa
     let mut bytes = Vec::new(heap);
     let mut block = [0; 512];
     for number in 0..count {
-        fill_block(&records[MOST * number..records.len()], number as u32, &mut block);
+        fill_block(
+            &records[MOST * number..records.len()],
+            number as u32,
+            &mut block,
+        );
         bytes.extend_from_slice(&block)?;
     }
     Ok(bytes)

@@ -6,13 +6,10 @@ ghost use Rattle.std.specs.Vec.{made};
 ghost use Rattle.std.specs.declared.option.Option.the-variants.{None};
 ghost use Rattle.block.specs.Block.{faultOf, recordsOf};
 ghost use Rattle.block.specs.Left.{recordsIn};
-
+use crate::fill::fill_block;
+use block::Checked;
 use std::alloc::AllocError;
 use std::alloc::Global;
-
-use block::Checked;
-
-use crate::fill::fill_block;
 
 /// The records of a good block, in order.
 pub fn records_of(heap: Global, block: &Checked) -> Result<Vec<[u8; 16]>, AllocError>
@@ -27,7 +24,12 @@ pub fn records_of(heap: Global, block: &Checked) -> Result<Vec<[u8; 16]>, AllocE
 }
 
 /// Writes the records of a good block into a block again, under this number.
-pub fn round_trip(heap: Global, block: &Checked, number: u32, bytes: &mut [u8; 512]) -> Result<(), AllocError>
+pub fn round_trip(
+    heap: Global,
+    block: &Checked,
+    number: u32,
+    bytes: &mut [u8; 512],
+) -> Result<(), AllocError>
     ensures { λ r. ⌜ made r (λ _. (faultOf (now (bytes .exit)) number ≡ None) × (recordsOf (now (bytes .exit)) ≡ recordsIn (now (block .entry)))) ⌝ }
 {
     let records = records_of(heap, block)?;

@@ -7,7 +7,6 @@ ghost use lib.ListN.{length, take, drop, replicate};
 ghost use Rattle.std.specs.declared.option.Option.the-variants.{None};
 ghost use Rattle.block.specs.Block.{faultOf, recordsOf};
 ghost use Rattle.encode.specs.Filled.{inRow, blockOf};
-
 use block::check_of;
 
 /// The bytes of a record.

@@ -3,14 +3,11 @@
 ghost use mathlib.Core.Path.{_≡_};
 ghost use Rattle.std.specs.Vec.{made};
 ghost use Rattle.encode.specs.Pages.{Shows, isGood};
-
-use std::alloc::AllocError;
-use std::alloc::Global;
-
+use crate::decode::records_of;
 use block::Fault;
 use block::Unchecked;
-
-use crate::decode::records_of;
+use std::alloc::AllocError;
+use std::alloc::Global;
 
 /// One block of a file, at its place from 0 on.
 #[derive(Drop)]
@@ -33,7 +30,10 @@ impl Page {
             Ok(block) => {
                 let records = records_of(heap, &block);
                 block.next_place();
-                Ok(Page::Good { place, records: records? })
+                Ok(Page::Good {
+                    place,
+                    records: records?,
+                })
             }
             Err(fault) => Ok(Page::Bad { place, fault }),
         }

@@ -75,8 +75,8 @@ values-below is rs before (v ∷ vs) n l h =
     let u = and-parts (isListed (entryOf (valueRecord v))) (valueNamed is rs before (valueOf v)) (t .0) in
     every-append (λ j. ltb j n) (namesOf v) (gathered namesOf vs)
     ∙ and-from (every (λ j. ltb j n) (namesOf v)) (every (λ j. ltb j n) (gathered namesOf vs))
-      (value-below is rs before n (omega arith) (valueOf v) (u .1))
-      (values-below is rs (before ++ v ∷ []) vs n (omega (arith, length-append before (v ∷ []))) (t .1))
+    (value-below is rs before n (omega arith) (valueOf v) (u .1))
+    (values-below is rs (before ++ v ∷ []) vs n (omega (arith, length-append before (v ∷ []))) (t .1))
 
 rest-below : (is : List IdentifierRow) (rs : List ReadRow) (vs : List ValueRow) (ss : List Status) (xs : List Node) → every (λ x. nodeListed x && nodeNamed is vs ss x) xs ≡ true → every (λ j. ltb j (length vs)) (gathered namesIn xs) ≡ true
 rest-below is rs vs ss [] h = refl
@@ -84,8 +84,8 @@ rest-below is rs vs ss (x ∷ xs) h =
     let t = and-parts (nodeListed x && nodeNamed is vs ss x) (every (λ y. nodeListed y && nodeNamed is vs ss y) xs) h in
     every-append (λ j. ltb j (length vs)) (namesIn x) (gathered namesIn xs)
     ∙ and-from (every (λ j. ltb j (length vs)) (namesIn x)) (every (λ j. ltb j (length vs)) (gathered namesIn xs))
-      (node-below is rs vs (length vs) (omega arith) ss x (and-parts (nodeListed x) (nodeNamed is vs ss x) (t .0) .1))
-      (rest-below is rs vs ss xs (t .1))
+    (node-below is rs vs (length vs) (omega arith) ss x (and-parts (nodeListed x) (nodeNamed is vs ss x) (t .0) .1))
+    (rest-below is rs vs ss xs (t .1))
 
 pub nodes-below : (is : List IdentifierRow) (rs : List ReadRow) (vs : List ValueRow) (ss : List Status) (xs : List Node) → nodesKept is vs ss xs ≡ true → every (λ j. ltb j (length vs)) (gathered namesIn xs) ≡ true
 nodes-below is rs vs ss [] h = refl
@@ -98,9 +98,9 @@ nodes-below is rs vs ss (Pruned k ∷ xs) h = absurd (let z : _≡_ {A = ℕ} 0 
 
 -- every value that is named is put
 pub namings-below : (is : List IdentifierRow) (rs : List ReadRow) (vs : List ValueRow) (ss : List Status) (xs : List Node) → valuesKept is rs [] vs ≡ true → nodesKept is vs ss xs ≡ true
-  → every (λ j. ltb j (length vs)) (namings vs xs) ≡ true
+    → every (λ j. ltb j (length vs)) (namings vs xs) ≡ true
 namings-below is rs vs ss xs h k =
     every-append (λ j. ltb j (length vs)) (gathered namesOf vs) (gathered namesIn xs)
     ∙ and-from (every (λ j. ltb j (length vs)) (gathered namesOf vs)) (every (λ j. ltb j (length vs)) (gathered namesIn xs))
-      (values-below is rs [] vs (length vs) (omega arith) h)
-      (nodes-below is rs vs ss xs k)
+    (values-below is rs [] vs (length vs) (omega arith) h)
+    (nodes-below is rs vs ss xs k)

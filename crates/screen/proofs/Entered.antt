@@ -80,34 +80,34 @@ plain-keeps x e h = by-list (blank (x .p) && blank (x .q) && blank (x .r) && bla
 open-keeps : (x : Record) → Keeps (openEntry x)
 open-keeps x =
     by-test (eqb (x .p) 0) (terminalEntry x) (cond (eqb (x .p) 1) (armEntry x) (openedEntry x))
-      (by-list (leb (x .q) 12 && order (x .r) && blank (x .t)) _ (λ h. and-parts (leb (x .q) 12 && order (x .r)) (blank (x .t)) h .0))
+    (by-list (leb (x .q) 12 && order (x .r) && blank (x .t)) _ (λ h. and-parts (leb (x .q) 12 && order (x .r)) (blank (x .t)) h .0))
     (by-test (eqb (x .p) 1) (armEntry x) (openedEntry x)
-      (by-list (blank (x .q) && blank (x .r) && blank (x .s) && blank (x .t)) _ (λ _. refl))
-      (by-list (leb (x .p) 3 && blank (x .q) && blank (x .s) && blank (x .t)) _ (λ _. opened-keeps (eqb (x .p) 2) (x .r))))
+    (by-list (blank (x .q) && blank (x .r) && blank (x .s) && blank (x .t)) _ (λ _. refl))
+    (by-list (leb (x .p) 3 && blank (x .q) && blank (x .s) && blank (x .t)) _ (λ _. opened-keeps (eqb (x .p) 2) (x .r))))
 
 by-keeps : (x : Record) → Keeps (entryBy x)
 by-keeps x =
     by-test (eqb (x .tag) 1) (typeEntry x) _
-      (by-list _ _ (first-of-4 (leb (x .p) 7) (blank (x .q)) (blank (x .s)) (blank (x .t))))
+    (by-list _ _ (first-of-4 (leb (x .p) 7) (blank (x .q)) (blank (x .s)) (blank (x .t))))
     (by-test (eqb (x .tag) 2) (identifierEntry x) _
-      (by-list _ _ (first-of-4 (leb (x .r) 1023) (blank (x .p)) (blank (x .q)) (blank (x .t))))
+    (by-list _ _ (first-of-4 (leb (x .r) 1023) (blank (x .p)) (blank (x .q)) (blank (x .t))))
     (by-test (eqb (x .tag) 3) (pathEntry x) _
-      (by-list _ _ (λ h. and-parts (leb (x .p) 1 && leb (x .q) 1) (blank (x .t)) h .0))
+    (by-list _ _ (λ h. and-parts (leb (x .p) 1 && leb (x .q) 1) (blank (x .t)) h .0))
     (by-test (eqb (x .tag) 4) (scopeEntry x) _
-      (by-list _ _ (first-of-4 (order (x .r) && order (x .s)) (blank (x .p)) (blank (x .q)) (blank (x .t))))
+    (by-list _ _ (first-of-4 (order (x .r) && order (x .s)) (blank (x .p)) (blank (x .q)) (blank (x .t))))
     (by-test (eqb (x .tag) 5) (dependencyEntry x) _
-      (by-list _ _ (first-of-3 (ltb 0 (x .q) || blank (x .s)) (blank (x .p)) (blank (x .t))))
+    (by-list _ _ (first-of-3 (ltb 0 (x .q) || blank (x .s)) (blank (x .p)) (blank (x .t))))
     (by-test (eqb (x .tag) 6) (declarationEntry x) _ (by-list _ _ (λ _. refl))
     (by-test (eqb (x .tag) 7) (reassignmentEntry x) _ (by-list _ _ (λ _. refl))
     (by-test (eqb (x .tag) 8) (readEntry x) _ (by-list _ _ (λ _. refl))
     (by-test (eqb (x .tag) 9) (valueEntry x) _ (by-list (valueListed x) _ (λ h. h))
     (by-test (eqb (x .tag) 10) (addEntry x) _
-      (by-list _ _ (first-of-3 (order (x .r)) (blank (x .p)) (blank (x .q))))
+    (by-list _ _ (first-of-3 (order (x .r)) (blank (x .p)) (blank (x .q))))
     (by-test (eqb (x .tag) 11) (openEntry x) _ (open-keeps x)
     (by-test (eqb (x .tag) 12) (plainEntry x entry.Close) _ (plain-keeps x entry.Close refl)
     (by-test (eqb (x .tag) 14) (plainEntry x entry.List) _ (plain-keeps x entry.List refl)
     (by-test (eqb (x .tag) 15) (shapeEntry x) None
-      (by-list _ _ (first-of-5 (ltb 0 (x .r)) (blank (x .p)) (blank (x .q)) (blank (x .s)) (blank (x .t)))) tt)))))))))))))
+    (by-list _ _ (first-of-5 (ltb 0 (x .r)) (blank (x .p)) (blank (x .q)) (blank (x .s)) (blank (x .t)))) tt)))))))))))))
 
 -- an entry that a record asks for keeps its list
 pub entered : (x : Record) (e : Entry) → entryOf x ≡ Some e → keeps e ≡ true

@@ -207,7 +207,7 @@ module _ (w : Rows) (ss : List Status) (h : RowsKept w ss) where
 
   -- a node, which may change how a Scope stands
   pub node-put : (ss′ : List Status) (x : Node) → length ss′ ≡ length ss → full 1024 (w .nodes) ≡ false → nodeListed x ≡ true → nodeNamed (w .identifiers) (w .values) ss x ≡ true
-    → taken (namings (w .values) (w .nodes)) (namesIn x) ≡ false → RowsKept (withNodes w (also (w .nodes) x)) ss′
+      → taken (namings (w .values) (w .nodes)) (namesIn x) ≡ false → RowsKept (withNodes w (also (w .nodes) x)) ss′
   node-put ss′ x many space ok n free =
       let w′ : Rows = withNodes w (also (w .nodes) x) in
       let l : Longer w ss w′ ss′ = record { types = omega arith; identifiers = omega arith; paths = omega arith; reads = omega arith; statuses = omega arith; more = []; values = append-nil (w .values) } in

@@ -119,7 +119,7 @@ module _ (σ : State) (h : WellFormed σ) where
       record {
         rows = dependency-put (σ .rows) (statuses (σ .scopes)) (h .rows) d (a .room-is) k (a .named-is);
         scopes = subst (λ (n : ℕ). ScopesKept (σ .scopes) n (length (σ .rows .declarations))) (sym (length-push (σ .rows .dependencies) d))
-          (scopes-dependency (σ .scopes) (length (σ .rows .dependencies)) (length (σ .rows .declarations)) (some-scope (part.Dependency d) a) (h .scopes));
+            (scopes-dependency (σ .scopes) (length (σ .rows .dependencies)) (length (σ .rows .declarations)) (some-scope (part.Dependency d) a) (h .scopes));
         tree = h .tree;
       }
   formed-part (part.Declaration key declared) k a =
@@ -127,7 +127,7 @@ module _ (σ : State) (h : WellFormed σ) where
       record {
         rows = last-rows (declaring n) (λ s. refl) _ (declaration-put (σ .rows) (statuses (σ .scopes)) (h .rows) (record { key = key; declared = declared }) (a .room-is) (a .named-is));
         scopes = subst (λ (m : ℕ). ScopesKept (alteredLast (σ .scopes) (declaring n)) (length (σ .rows .dependencies)) m) (sym (length-push (σ .rows .declarations) (record { key = key; declared = declared })))
-          (scopes-declaring (σ .scopes) (length (σ .rows .dependencies)) n (some-scope (part.Declaration key declared) a) (h .scopes));
+            (scopes-declaring (σ .scopes) (length (σ .rows .dependencies)) n (some-scope (part.Declaration key declared) a) (h .scopes));
         tree = last-tree (declaring n) (λ s. refl);
       }
   formed-part (part.Reassignment i) k a =
@@ -143,7 +143,7 @@ module _ (σ : State) (h : WellFormed σ) where
 
   -- a node that opens no Scope
   plain-rows : (x : Node) → nodeListed x ≡ true → taken (namings (σ .rows .values) (σ .rows .nodes)) (namesIn x) ≡ false → Accepts σ (entry.Node x)
-    → RowsKept (after σ (entry.Node x) .rows) (statuses (σ .scopes))
+      → RowsKept (after σ (entry.Node x) .rows) (statuses (σ .scopes))
   plain-rows x k free a = node-put (σ .rows) (statuses (σ .scopes)) (h .rows) (statuses (σ .scopes)) x refl (a .room-is) k (a .named-is) free
 
   formed-node : (x : Node) → keeps (entry.Node x) ≡ true → Accepts σ (entry.Node x) → WellFormed (after σ (entry.Node x))
@@ -159,7 +159,7 @@ module _ (σ : State) (h : WellFormed σ) where
         rows = plain-rows (node.Terminal j o v) k (a .used-is) a;
         scopes = h .scopes;
         tree = standing-open (σ .rows .nodes) (statuses (σ .scopes)) (σ .tree) (σ .opened) (h .tree) (length (σ .rows .nodes)) (node.Terminal j o v) refl (held (node.Terminal j o v) a) refl refl
-          (leb-false 63 (σ .opened) (a .crowded-is));
+            (leb-false 63 (σ .opened) (a .crowded-is));
       }
   formed-node node.Arm k a =
       record {
@@ -172,7 +172,7 @@ module _ (σ : State) (h : WellFormed σ) where
         rows = plain-rows (node.Pruned j) k refl a;
         scopes = h .scopes;
         tree = standing-open (σ .rows .nodes) (statuses (σ .scopes)) (σ .tree) (σ .opened) (h .tree) (length (σ .rows .nodes)) (node.Pruned j) refl (held (node.Pruned j) a) refl refl
-          (leb-false 63 (σ .opened) (a .crowded-is));
+            (leb-false 63 (σ .opened) (a .crowded-is));
       }
   formed-node (node.Scope j) k a =
       let w : Rows = σ .rows in
@@ -182,10 +182,10 @@ module _ (σ : State) (h : WellFormed σ) where
       let e = statuses-stood (σ .scopes) j in
       record {
         rows = subst (λ (ts : List Status). RowsKept (after σ (entry.Node (node.Scope j)) .rows) ts) (sym e)
-          (node-put w ss (h .rows) (set ss j Stood) (node.Scope j) (length-set ss j Stood) (a .room-is) refl (a .named-is) refl);
+            (node-put w ss (h .rows) (set ss j Stood) (node.Scope j) (length-set ss j Stood) (a .room-is) refl (a .named-is) refl);
         scopes = scopes-stood (σ .scopes) j (length (w .dependencies)) (length (w .declarations)) within unused (h .scopes);
         tree = subst (λ (ts : List Status). Standing (also (w .nodes) (node.Scope j)) ts (after σ (entry.Node (node.Scope j)) .tree) (σ .opened + 1)) (sym e)
-          (standing-scope (w .nodes) ss (σ .tree) (σ .opened) (h .tree) (length (w .nodes)) j refl (held (node.Scope j) a) within unused (leb-false 63 (σ .opened) (a .crowded-is)));
+            (standing-scope (w .nodes) ss (σ .tree) (σ .opened) (h .tree) (length (w .nodes)) j refl (held (node.Scope j) a) within unused (leb-false 63 (σ .opened) (a .crowded-is)));
       }
 
   formed : (e : Entry) → keeps e ≡ true → Accepts σ e → WellFormed (after σ e)

@@ -80,12 +80,12 @@ grow-shallow (suc r) (suc d) n x (tree m y cs (tree j z ds ts)) o l a h =
 
 -- a node with a later sibling is not open
 opens-next : (e d n : ℕ) (x : Node) (m : ℕ) (y : Node) (cs : Forest) (j : ℕ) (z : Node) (ds ts : Forest)
-  → opens (suc e) (tree m y cs (grow (suc d) n x (tree j z ds ts))) ≡ opens (suc e) (grow (suc d) n x (tree j z ds ts))
+    → opens (suc e) (tree m y cs (grow (suc d) n x (tree j z ds ts))) ≡ opens (suc e) (grow (suc d) n x (tree j z ds ts))
 opens-next e d n x m y cs j z ds bare = refl
 opens-next e d n x m y cs j z ds (tree i w es us) = refl
 
 innermost-next : (at : Spot) (e d n : ℕ) (x : Node) (m : ℕ) (y : Node) (cs : Forest) (j : ℕ) (z : Node) (ds ts : Forest)
-  → innermost at (suc e) (tree m y cs (grow (suc d) n x (tree j z ds ts))) ≡ innermost at (suc e) (grow (suc d) n x (tree j z ds ts))
+    → innermost at (suc e) (tree m y cs (grow (suc d) n x (tree j z ds ts))) ≡ innermost at (suc e) (grow (suc d) n x (tree j z ds ts))
 innermost-next at e d n x m y cs j z ds bare = refl
 innermost-next at e d n x m y cs j z ds (tree i w es us) = refl
 

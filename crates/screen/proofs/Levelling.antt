@@ -29,12 +29,12 @@ levels-spoilt p levels [] h = h
 levels-spoilt p levels (v ∷ vs) h = levels-spoilt p (levels ++ levelAfter levels v ∷ []) vs (every-append p levels (levelAfter levels v ∷ []) ∙ ap (λ b. b && (p (levelAfter levels v) && true)) h)
 
 pub levels-more : (vs : List ValueRow) (levels : List ℕ) (i : ℕ) → i < length vs
-  → levelsFrom levels (drop i vs) ≡ levelsFrom (levels ++ levelAfter levels (getD vs i noValue) ∷ []) (drop (i + 1) vs)
+    → levelsFrom levels (drop i vs) ≡ levelsFrom (levels ++ levelAfter levels (getD vs i noValue) ∷ []) (drop (i + 1) vs)
 levels-more vs levels i h = ap (levelsFrom levels) (drop-more vs i noValue h)
 
 -- the level of value i is written behind those before it
 pub levels-written : (vs : List ValueRow) (levels : List ℕ) (i x : ℕ) → i < length vs → i < length levels → x ≡ levelAfter (take i levels) (getD vs i noValue)
-  → levelsFrom (take i levels) (drop i vs) ≡ levelsFrom (take (i + 1) (set levels i x)) (drop (i + 1) vs)
+    → levelsFrom (take i levels) (drop i vs) ≡ levelsFrom (take (i + 1) (set levels i x)) (drop (i + 1) vs)
 levels-written vs levels i x h l e =
     levels-more vs (take i levels) i h
     ∙ ap (λ ys. levelsFrom ys (drop (i + 1) vs)) (ap (λ y. take i levels ++ y ∷ []) (sym e) ∙ sym (take-more-set levels i x l))
@@ -44,7 +44,7 @@ pub levels-too-deep : (vs : List ValueRow) (levels : List ℕ) (i : ℕ) → i <
 levels-too-deep vs levels i h d =
     ap (every (λ n. leb n 64)) (levels-more vs levels i h)
     ∙ levels-spoilt (λ n. leb n 64) (levels ++ levelAfter levels (getD vs i noValue) ∷ []) (drop (i + 1) vs)
-      (every-spoilt (λ n. leb n 64) levels (levelAfter levels (getD vs i noValue)) (lt-leb (levelAfter levels (getD vs i noValue)) 64 d))
+    (every-spoilt (λ n. leb n 64) levels (levelAfter levels (getD vs i noValue)) (lt-leb (levelAfter levels (getD vs i noValue)) 64 d))
 
 -- the level of one value more, behind those before it
 levels-end : (vs : List ValueRow) (levels : List ℕ) (v : ValueRow) → levelsFrom levels (vs ++ v ∷ []) ≡ levelsFrom levels vs ++ levelAfter (levelsFrom levels vs) v ∷ []

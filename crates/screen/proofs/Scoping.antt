@@ -44,10 +44,10 @@ altered-every p f e (s ∷ ss) (suc k) = ap (λ t. p s && t) (altered-every p f 
 
 -- one Scope's range, begin and merged list as they were; what it declares and how it stands is shown apart
 scopes-altered : (ss : List Scope) (k deps decls : ℕ) (f : Scope → Scope)
-  → ((s : Scope) → ((order (f s .start) && order (f s .end)) ≡ (order (s .start) && order (s .end))) × (f s .begin ≡ s .begin) × (f s .merged ≡ s .merged))
-  → ScopesKept ss deps decls → (decls′ : ℕ) → distinct (gathered (λ j. j .declares) (altered ss k f)) ≡ true → every (λ n. ltb n decls′) (gathered (λ j. j .declares) (altered ss k f)) ≡ true
-  → ((j : ℕ) → isJoined (getD (statuses (altered ss k f)) j Unused) ≡ isJoined (getD (statuses ss) j Unused))
-  → ScopesKept (altered ss k f) deps decls′
+    → ((s : Scope) → ((order (f s .start) && order (f s .end)) ≡ (order (s .start) && order (s .end))) × (f s .begin ≡ s .begin) × (f s .merged ≡ s .merged))
+    → ScopesKept ss deps decls → (decls′ : ℕ) → distinct (gathered (λ j. j .declares) (altered ss k f)) ≡ true → every (λ n. ltb n decls′) (gathered (λ j. j .declares) (altered ss k f)) ≡ true
+    → ((j : ℕ) → isJoined (getD (statuses (altered ss k f)) j Unused) ≡ isJoined (getD (statuses ss) j Unused))
+    → ScopesKept (altered ss k f) deps decls′
 scopes-altered ss k deps decls f alike h decls′ declared put joined =
     let many : length (altered ss k f) ≡ length ss = length-set ss k (f (getD ss k (fresh 0 0 0))) in
     let merged : gathered (λ j. j .merged) (altered ss k f) ≡ gathered (λ j. j .merged) ss = altered-gathered (λ j. j .merged) f (λ s. alike s .2) ss k in
@@ -85,26 +85,26 @@ scopes-declaring ss deps decls some h =
     let last : suc (length ss - 1) ≡ length ss = omega (arith, ltb-true 0 (length (statuses ss)) some, length-map ss (λ j. j .status)) in
     let e = declares-last decls ss (length ss - 1) last in
     scopes-altered ss (length ss - 1) deps decls (declaring decls) (λ s. (refl, refl, refl)) h (decls + 1)
-      (ap distinct e ∙ distinct-next (gathered (λ j. j .declares) ss) decls (h .declared) (h .declarations-put))
-      (ap (every (λ n. ltb n (decls + 1))) e
-        ∙ every-push (λ n. ltb n (decls + 1)) (gathered (λ j. j .declares) ss) decls (below-more decls (decls + 1) (omega arith) (gathered (λ j. j .declares) ss) (h .declarations-put)) (lt-ltb decls (decls + 1) (omega arith)))
-      (λ j. ap (λ t. isJoined (getD t j Unused)) (statuses-kept (declaring decls) (λ s. refl) ss (length ss - 1)))
+    (ap distinct e ∙ distinct-next (gathered (λ j. j .declares) ss) decls (h .declared) (h .declarations-put))
+    (ap (every (λ n. ltb n (decls + 1))) e
+    ∙ every-push (λ n. ltb n (decls + 1)) (gathered (λ j. j .declares) ss) decls (below-more decls (decls + 1) (omega arith) (gathered (λ j. j .declares) ss) (h .declarations-put)) (lt-ltb decls (decls + 1) (omega arith)))
+    (λ j. ap (λ t. isJoined (getD t j Unused)) (statuses-kept (declaring decls) (λ s. refl) ss (length ss - 1)))
 
 -- a reassignment, of the last Scope
 pub scopes-reassigned : (ss : List Scope) (deps decls : ℕ) → ScopesKept ss deps decls → ScopesKept (alteredLast ss reassigned) deps decls
 scopes-reassigned ss deps decls h =
     let e : gathered (λ j. j .declares) (alteredLast ss reassigned) ≡ gathered (λ j. j .declares) ss = altered-gathered (λ j. j .declares) reassigned (λ s. refl) ss (length ss - 1) in
     scopes-altered ss (length ss - 1) deps decls reassigned (λ s. (refl, refl, refl)) h decls
-      (ap distinct e ∙ h .declared) (ap (every (λ n. ltb n decls)) e ∙ h .declarations-put)
-      (λ j. ap (λ t. isJoined (getD t j Unused)) (statuses-kept reassigned (λ s. refl) ss (length ss - 1)))
+    (ap distinct e ∙ h .declared) (ap (every (λ n. ltb n decls)) e ∙ h .declarations-put)
+    (λ j. ap (λ t. isJoined (getD t j Unused)) (statuses-kept reassigned (λ s. refl) ss (length ss - 1)))
 
 -- an unused Scope comes to stand
 pub scopes-stood : (ss : List Scope) (k deps decls : ℕ) → k < length (statuses ss) → getD (statuses ss) k Unused ≡ Unused → ScopesKept ss deps decls → ScopesKept (altered ss k stood) deps decls
 scopes-stood ss k deps decls l unused h =
     let e : gathered (λ j. j .declares) (altered ss k stood) ≡ gathered (λ j. j .declares) ss = altered-gathered (λ j. j .declares) stood (λ s. refl) ss k in
     scopes-altered ss k deps decls stood (λ s. (refl, refl, refl)) h decls
-      (ap distinct e ∙ h .declared) (ap (every (λ n. ltb n decls)) e ∙ h .declarations-put)
-      (λ j. ap (λ t. isJoined (getD t j Unused)) (statuses-stood ss k) ∙ stood-alike isJoined (statuses ss) k j refl l unused)
+    (ap distinct e ∙ h .declared) (ap (every (λ n. ltb n decls)) e ∙ h .declarations-put)
+    (λ j. ap (λ t. isJoined (getD t j Unused)) (statuses-stood ss k) ∙ stood-alike isJoined (statuses ss) k j refl l unused)
 
 -- dependencies that reach further, and a Scope whose own begin where all others end
 rises-more : (low : ℕ) (bs : List ℕ) (n m : ℕ) → n ≤ m → risesTo low bs n ≡ true → risesTo low bs m ≡ true

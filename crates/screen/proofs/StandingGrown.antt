@@ -88,13 +88,12 @@ standing-once nodes ss f o h k = go (cases-lt k (length nodes))
 
 -- a new node x, of number n
 module _ (nodes : List Node) (ss : List Status) (f : Forest) (o : ℕ) (s : Standing nodes ss f o)
-  (n : ℕ) (x : Node) (many : length nodes ≡ n) (holds : canHold (innermost (record { number = 0; node = Body }) o f .node) x ≡ true) where
-
+    (n : ℕ) (x : Node) (many : length nodes ≡ n) (holds : canHold (innermost (record { number = 0; node = Body }) o f .node) x ≡ true) where
   -- what the tree is, where the Scopes then stand as ss′ and o′ nodes are open
   grown : (ss′ : List Status) (o′ : ℕ) → reached ss′ x ≡ 1 → ((y : Node) → reached ss′ y ≡ reached ss y)
-    → ((k : ℕ) → k < length ss′ → opening k x + openings k f ≡ cond (isStanding (getD ss′ k Unused)) 1 0)
-    → (isAdd x ≡ true) ⊎ (o < 63) → opens o′ (grow o n x f) ≡ true → o′ ≤ 63
-    → Standing (nodes ++ x ∷ []) ss′ (grow o n x f) o′
+      → ((k : ℕ) → k < length ss′ → opening k x + openings k f ≡ cond (isStanding (getD ss′ k Unused)) 1 0)
+      → (isAdd x ≡ true) ⊎ (o < 63) → opens o′ (grow o n x f) ≡ true → o′ ≤ 63
+      → Standing (nodes ++ x ∷ []) ss′ (grow o n x f) o′
   grown ss′ o′ one old stands level last few =
       record {
         labelled = grow-labelled nodes (suc o) n x (body f) many (s .labelled);
@@ -128,17 +127,17 @@ module _ (nodes : List Node) (ss : List Status) (f : Forest) (o : ℕ) (s : Stan
   pub standing-open : isAdd x ≡ false → isScope x ≡ false → o < 63 → Standing (nodes ++ x ∷ []) ss (grow o n x f) (o + 1)
   standing-open other plain few =
       rw add-one
-        (grown ss (suc o) (plain-reached ss x plain) (λ y. refl) (λ k l. omega (arith, plain-opening x k plain, s .stands k l)) (inr few) (grow-opens-more o n x f other (s .last)) few)
+      (grown ss (suc o) (plain-reached ss x plain) (λ y. refl) (λ k l. omega (arith, plain-opening x k plain, s .stands k l)) (inr few) (grow-opens-more o n x f other (s .last)) few)
 
 -- so is an unused Scope, which stands then
 pub standing-scope : (nodes : List Node) (ss : List Status) (f : Forest) (o : ℕ) → Standing nodes ss f o
-  → (n k : ℕ) → length nodes ≡ n → canHold (innermost (record { number = 0; node = Body }) o f .node) (Scope k) ≡ true → k < length ss → getD ss k Unused ≡ Unused → o < 63
-  → Standing (nodes ++ Scope k ∷ []) (set ss k Stood) (grow o n (Scope k) f) (o + 1)
+    → (n k : ℕ) → length nodes ≡ n → canHold (innermost (record { number = 0; node = Body }) o f .node) (Scope k) ≡ true → k < length ss → getD ss k Unused ≡ Unused → o < 63
+    → Standing (nodes ++ Scope k ∷ []) (set ss k Stood) (grow o n (Scope k) f) (o + 1)
 standing-scope nodes ss f o s n k many holds l unused few =
     rw add-one
-      (grown nodes ss f o s n (Scope k) many holds (set ss k Stood) (suc o)
-        (ap (λ t. cond (isGone t) 0 1) (getD-set-same ss k Stood Unused l)) (stood-reached ss k l unused)
-        (λ j m. stands j m (cases-eq j k)) (inr few) (grow-opens-more o n (Scope k) f refl (s .last)) few)
+    (grown nodes ss f o s n (Scope k) many holds (set ss k Stood) (suc o)
+    (ap (λ t. cond (isGone t) 0 1) (getD-set-same ss k Stood Unused l)) (stood-reached ss k l unused)
+    (λ j m. stands j m (cases-eq j k)) (inr few) (grow-opens-more o n (Scope k) f refl (s .last)) few)
   where
     stands : (j : ℕ) → j < length (set ss k Stood) → (j ≡ k) ⊎ (j ≡ k → ⊥) → opening j (Scope k) + openings j f ≡ cond (isStanding (getD (set ss k Stood) j Unused)) 1 0
     stands j m (inl e) =

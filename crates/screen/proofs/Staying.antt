@@ -61,7 +61,7 @@ module _ (vs more : List ValueRow) where
   value-kind k t h =
       let a = and-parts (isPut vs k) (t (getD vs k noValue .kind)) h in
       and-from (isPut (vs ++ more) k) (t (getD (vs ++ more) k noValue .kind)) (value-put k (a .0))
-        (ap (λ v. t (v .kind)) (getD-append-left vs more noValue k (ltb-true k (length vs) (a .0))) ∙ a .1)
+      (ap (λ v. t (v .kind)) (getD-append-left vs more noValue k (ltb-true k (length vs) (a .0))) ∙ a .1)
 
   operand-stays : (k : ℕ) → operand vs k ≡ true → operand (vs ++ more) k ≡ true
   operand-stays k h = value-kind k (λ n. not (eqb n 16)) h
@@ -85,7 +85,7 @@ module _ (vs more : List ValueRow) where
   value-stays is is′ rs rs′ i r (value.Logical a b) h = both (operand vs a) (operand vs b) (operand (vs ++ more) a) (operand (vs ++ more) b) (operand-stays a) (operand-stays b) h
   value-stays is is′ rs rs′ i r (value.Conditional a b c) h =
       both (operand vs a && operand vs b) (operand vs c) (operand (vs ++ more) a && operand (vs ++ more) b) (operand (vs ++ more) c)
-        (both (operand vs a) (operand vs b) (operand (vs ++ more) a) (operand (vs ++ more) b) (operand-stays a) (operand-stays b)) (operand-stays c) h
+      (both (operand vs a) (operand vs b) (operand (vs ++ more) a) (operand (vs ++ more) b) (operand-stays a) (operand-stays b)) (operand-stays c) h
   value-stays is is′ rs rs′ i r (value.Sequence o v f) h = both (operand vs v) (inner vs f) (operand (vs ++ more) v) (inner (vs ++ more) f) (operand-stays v) (inner-stays f) h
   value-stays is is′ rs rs′ i r (value.Optional v) h = operand-stays v h
   value-stays is is′ rs rs′ i r (value.Inner o v n) h = both (operand vs v) (inner vs n) (operand (vs ++ more) v) (inner (vs ++ more) n) (operand-stays v) (inner-stays n) h
@@ -123,7 +123,7 @@ module _ (w : Rows) (ss : List Status) (w′ : Rows) (ss′ : List Status) (l : 
   part-stays : (p : Part) → partNamed w p ≡ true → partNamed w′ p ≡ true
   part-stays (part.Dependency d) h =
       both (isPut (w .identifiers) (d .identifier)) (span (w .paths) (d .first) (d .length)) (isPut (w′ .identifiers) (d .identifier)) (span (w′ .paths) (d .first) (d .length))
-        (identifier-stays (d .identifier)) (span-stays (w .paths) (w′ .paths) (l .paths) (d .first) (d .length)) h
+      (identifier-stays (d .identifier)) (span-stays (w .paths) (w′ .paths) (l .paths) (d .first) (d .length)) h
   part-stays (part.Declaration k d) h =
       both (isPut (w .identifiers) k) (isPut (w .identifiers) d) (isPut (w′ .identifiers) k) (isPut (w′ .identifiers) d) (identifier-stays k) (identifier-stays d) h
   part-stays (part.Reassignment i) h = identifier-stays i h
@@ -133,10 +133,10 @@ module _ (w : Rows) (ss : List Status) (w′ : Rows) (ss′ : List Status) (l : 
   named-stays (entry.Part p) h = both (isPut ss 0) (partNamed w p) (isPut ss′ 0) (partNamed w′ p) (isPut-stays ss ss′ (l .statuses) 0) (part-stays p) h
   named-stays (entry.Value v) h =
       subst (λ (vs : List ValueRow). valueNamed (w′ .identifiers) (w′ .reads) vs (valueOf v) ≡ true) (l .values)
-        (value-stays (w .values) (l .more) (w .identifiers) (w′ .identifiers) (w .reads) (w′ .reads) (l .identifiers) (l .reads) (valueOf v) h)
+      (value-stays (w .values) (l .more) (w .identifiers) (w′ .identifiers) (w .reads) (w′ .reads) (l .identifiers) (l .reads) (valueOf v) h)
   named-stays (entry.Node x) h =
       subst (λ (vs : List ValueRow). nodeNamed (w′ .identifiers) vs ss′ x ≡ true) (l .values)
-        (node-stays (w .values) (l .more) (w .identifiers) (w′ .identifiers) ss ss′ (l .identifiers) (l .statuses) x h)
+      (node-stays (w .values) (l .more) (w .identifiers) (w′ .identifiers) ss ss′ (l .identifiers) (l .statuses) x h)
   named-stays entry.Close h = refl
   named-stays entry.List h = refl
 
@@ -152,7 +152,7 @@ module _ (w : Rows) (ss : List Status) (w′ : Rows) (ss′ : List Status) (l : 
 
   -- one row more, of an entry that is named
   pub every-more : {A : Type 0} (made : A → Record) (xs : List A) (x : A) (e : Entry) → every (λ y. kept w ss (made y)) xs ≡ true → entryOf (made x) ≡ Some e → named w ss e ≡ true
-    → every (λ y. kept w′ ss′ (made y)) (xs ++ x ∷ []) ≡ true
+      → every (λ y. kept w′ ss′ (made y)) (xs ++ x ∷ []) ≡ true
   every-more made xs x e h is n =
       every-push (λ y. kept w′ ss′ (made y)) xs x (every-stays made xs h) (ap (keptBy w′ ss′) is ∙ named-stays e n)
 
@@ -160,7 +160,7 @@ module _ (w : Rows) (ss : List Status) (w′ : Rows) (ss′ : List Status) (l : 
   nodes-stay [] h = h
   nodes-stay (node.Body ∷ xs) h =
       every-weaker (λ x. nodeListed x && nodeNamed (w .identifiers) (w .values) ss x) (λ x. nodeListed x && nodeNamed (w′ .identifiers) (w′ .values) ss′ x)
-        (λ x k. both (nodeListed x) (nodeNamed (w .identifiers) (w .values) ss x) (nodeListed x) (nodeNamed (w′ .identifiers) (w′ .values) ss′ x) (λ e. e) (named-stays (entry.Node x)) k) xs h
+      (λ x k. both (nodeListed x) (nodeNamed (w .identifiers) (w .values) ss x) (nodeListed x) (nodeNamed (w′ .identifiers) (w′ .values) ss′ x) (λ e. e) (named-stays (entry.Node x)) k) xs h
   nodes-stay (node.Add o v t ∷ xs) h = h
   nodes-stay (node.Terminal k o v ∷ xs) h = h
   nodes-stay (node.Arm ∷ xs) h = h
@@ -169,28 +169,28 @@ module _ (w : Rows) (ss : List Status) (w′ : Rows) (ss′ : List Status) (l : 
 
 -- values stay kept with more identifiers and reads
 values-stay : (is is′ : List IdentifierRow) (rs rs′ : List ReadRow) → length is ≤ length is′ → length rs ≤ length rs′
-  → (before vs : List ValueRow) → valuesKept is rs before vs ≡ true → valuesKept is′ rs′ before vs ≡ true
+    → (before vs : List ValueRow) → valuesKept is rs before vs ≡ true → valuesKept is′ rs′ before vs ≡ true
 values-stay is is′ rs rs′ i r before [] h = refl
 values-stay is is′ rs rs′ i r before (v ∷ vs) h =
     both (valueKept is rs before v) (valuesKept is rs (before ++ v ∷ []) vs) (valueKept is′ rs′ before v) (valuesKept is′ rs′ (before ++ v ∷ []) vs)
-      (both (isListed (entryOf (valueRecord v))) (valueNamed is rs before (valueOf v)) (isListed (entryOf (valueRecord v))) (valueNamed is′ rs′ before (valueOf v)) (λ e. e) here)
-      (values-stay is is′ rs rs′ i r (before ++ v ∷ []) vs) h
+    (both (isListed (entryOf (valueRecord v))) (valueNamed is rs before (valueOf v)) (isListed (entryOf (valueRecord v))) (valueNamed is′ rs′ before (valueOf v)) (λ e. e) here)
+    (values-stay is is′ rs rs′ i r (before ++ v ∷ []) vs) h
   where
     here : valueNamed is rs before (valueOf v) ≡ true → valueNamed is′ rs′ before (valueOf v) ≡ true
     here k = subst (λ (us : List ValueRow). valueNamed is′ rs′ us (valueOf v) ≡ true) (append-nil before) (value-stays before [] is is′ rs rs′ i r (valueOf v) k)
 
 -- one value more, whose children are among all before it
 pub values-more : (is : List IdentifierRow) (rs : List ReadRow) (before vs : List ValueRow) (v : ValueRow) → valuesKept is rs before vs ≡ true → valueKept is rs (before ++ vs) v ≡ true
-  → valuesKept is rs before (vs ++ v ∷ []) ≡ true
+    → valuesKept is rs before (vs ++ v ∷ []) ≡ true
 values-more is rs before [] v h k = and-from (valueKept is rs before v) true (subst (λ (us : List ValueRow). valueKept is rs us v ≡ true) (append-nil before) k) refl
 values-more is rs before (u ∷ us) v h k =
     let a = and-parts (valueKept is rs before u) (valuesKept is rs (before ++ u ∷ []) us) h in
     and-from (valueKept is rs before u) (valuesKept is rs (before ++ u ∷ []) (us ++ v ∷ [])) (a .0)
-      (values-more is rs (before ++ u ∷ []) us v (a .1) (subst (λ (ws : List ValueRow). valueKept is rs ws v ≡ true) (sym (append-assoc before (u ∷ []) us)) k))
+    (values-more is rs (before ++ u ∷ []) us v (a .1) (subst (λ (ws : List ValueRow). valueKept is rs ws v ≡ true) (sym (append-assoc before (u ∷ []) us)) k))
 
 -- one node more
 pub nodes-more : (is : List IdentifierRow) (vs : List ValueRow) (ss : List Status) (xs : List Node) (x : Node) → nodesKept is vs ss xs ≡ true → nodeListed x ≡ true → nodeNamed is vs ss x ≡ true
-  → nodesKept is vs ss (xs ++ x ∷ []) ≡ true
+    → nodesKept is vs ss (xs ++ x ∷ []) ≡ true
 nodes-more is vs ss [] x h l n = absurd (false≢true h)
 nodes-more is vs ss (node.Body ∷ xs) x h l n = every-push (λ y. nodeListed y && nodeNamed is vs ss y) xs x h (and-from (nodeListed x) (nodeNamed is vs ss x) l n)
 nodes-more is vs ss (node.Add o v t ∷ xs) x h l n = absurd (false≢true h)

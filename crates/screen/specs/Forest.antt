@@ -13,7 +13,6 @@ pub data Forest : Type 0 where
 
 -- one forest after the other
 infixr 40 _⊕_
-
 abbrev pub _⊕_ : Forest → Forest → Forest
 bare ⊕ g = g
 (tree n x cs ss) ⊕ g = tree n x cs (ss ⊕ g)

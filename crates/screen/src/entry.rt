@@ -4,9 +4,6 @@ ghost use mathlib.Core.Path.{_≡_};
 ghost use Rattle.screen.specs.Entries.{entryBy, entryOf, nodeOf, typeEntry, identifierEntry, pathEntry, scopeEntry, dependencyEntry, declarationEntry, reassignmentEntry, readEntry, valueListed, valueEntry, addEntry, terminalEntry, armEntry, openedEntry, openEntry, plainEntry, shapeEntry, blank};
 ghost use mathlib.Core.Bool.{_&&_, _||_};
 ghost use lib.Dec.{eqb, ltb};
-
-use block::Record;
-
 use crate::node::Node;
 use crate::rows::DependencyRow;
 use crate::rows::IdentifierRow;
@@ -17,6 +14,7 @@ use crate::rows::ShapeRow;
 use crate::rows::TypeRow;
 use crate::rows::ValueRow;
 use crate::value::optional;
+use block::Record;
 
 /// A row to be put, which stands for itself.
 #[derive(Clone, Copy)]
@@ -100,7 +98,10 @@ fn type_entry(x: Record) -> Option<Entry>
     ensures { λ r. ⌜ r ≡ typeEntry x ⌝ }
 {
     if x.p <= 7 && x.q == 0 && x.s == 0 && x.t == 0 {
-        Some(Entry::Put(Put::Type(TypeRow { shape: x.r, kind: x.p })))
+        Some(Entry::Put(Put::Type(TypeRow {
+            shape: x.r,
+            kind: x.p,
+        })))
     } else {
         None
     }
@@ -111,7 +112,10 @@ fn identifier_entry(x: Record) -> Option<Entry>
     ensures { λ r. ⌜ r ≡ identifierEntry x ⌝ }
 {
     if x.r <= 1023 && x.p == 0 && x.q == 0 && x.t == 0 {
-        Some(Entry::Put(Put::Identifier(IdentifierRow { declaration: x.r, typ: x.s })))
+        Some(Entry::Put(Put::Identifier(IdentifierRow {
+            declaration: x.r,
+            typ: x.s,
+        })))
     } else {
         None
     }
@@ -122,7 +126,12 @@ fn path_entry(x: Record) -> Option<Entry>
     ensures { λ r. ⌜ r ≡ pathEntry x ⌝ }
 {
     if x.p <= 1 && x.q <= 1 && x.t == 0 {
-        Some(Entry::Put(Put::Path(PathRow { low: x.r, high: x.s, kind: x.q, optional: x.p })))
+        Some(Entry::Put(Put::Path(PathRow {
+            low: x.r,
+            high: x.s,
+            kind: x.q,
+            optional: x.p,
+        })))
     } else {
         None
     }
@@ -133,7 +142,10 @@ fn scope_entry(x: Record) -> Option<Entry>
     ensures { λ r. ⌜ r ≡ scopeEntry x ⌝ }
 {
     if x.r < NONE && x.s < NONE && x.p == 0 && x.q == 0 && x.t == 0 {
-        Some(Entry::Put(Put::Scope { start: x.r, end: x.s }))
+        Some(Entry::Put(Put::Scope {
+            start: x.r,
+            end: x.s,
+        }))
     } else {
         None
     }
@@ -145,7 +157,11 @@ fn dependency_entry(x: Record) -> Option<Entry>
 {
     let from = x.q > 0 || x.s == 0;
     if from && x.p == 0 && x.t == 0 {
-        Some(Entry::Part(Part::Dependency(DependencyRow { identifier: x.r, first: x.s, length: x.q })))
+        Some(Entry::Part(Part::Dependency(DependencyRow {
+            identifier: x.r,
+            first: x.s,
+            length: x.q,
+        })))
     } else {
         None
     }
@@ -156,7 +172,10 @@ fn declaration_entry(x: Record) -> Option<Entry>
     ensures { λ r. ⌜ r ≡ declarationEntry x ⌝ }
 {
     if x.p == 0 && x.q == 0 && x.t == 0 {
-        Some(Entry::Part(Part::Declaration { key: x.r, declared: x.s }))
+        Some(Entry::Part(Part::Declaration {
+            key: x.r,
+            declared: x.s,
+        }))
     } else {
         None
     }
@@ -213,7 +232,13 @@ fn value_entry(x: Record) -> Option<Entry>
     ensures { λ r. ⌜ r ≡ valueEntry x ⌝ }
 {
     if value_listed(x) {
-        Some(Entry::Value(ValueRow { r: x.r, s: x.s, t: x.t, q: x.q, kind: x.p }))
+        Some(Entry::Value(ValueRow {
+            r: x.r,
+            s: x.s,
+            t: x.t,
+            q: x.q,
+            kind: x.p,
+        }))
     } else {
         None
     }
@@ -224,7 +249,11 @@ fn add_entry(x: Record) -> Option<Entry>
     ensures { λ r. ⌜ r ≡ addEntry x ⌝ }
 {
     if x.r < NONE && x.p == 0 && x.q == 0 {
-        Some(Entry::Node(Node::Add { order: x.r, value: x.s, target: optional(x.t) }))
+        Some(Entry::Node(Node::Add {
+            order: x.r,
+            value: x.s,
+            target: optional(x.t),
+        }))
     } else {
         None
     }
@@ -235,7 +264,11 @@ fn terminal_entry(x: Record) -> Option<Entry>
     ensures { λ r. ⌜ r ≡ terminalEntry x ⌝ }
 {
     if x.q <= 12 && x.r < NONE && x.t == 0 {
-        Some(Entry::Node(Node::Terminal { kind: x.q, order: x.r, value: optional(x.s) }))
+        Some(Entry::Node(Node::Terminal {
+            kind: x.q,
+            order: x.r,
+            value: optional(x.s),
+        }))
     } else {
         None
     }
@@ -257,7 +290,11 @@ fn opened_entry(x: Record) -> Option<Entry>
     ensures { λ r. ⌜ r ≡ openedEntry x ⌝ }
 {
     if x.p <= 3 && x.q == 0 && x.s == 0 && x.t == 0 {
-        let node = if x.p == 2 { Node::Scope { scope: x.r } } else { Node::Pruned { scope: x.r } };
+        let node = if x.p == 2 {
+            Node::Scope { scope: x.r }
+        } else {
+            Node::Pruned { scope: x.r }
+        };
         Some(Entry::Node(node))
     } else {
         None
@@ -279,7 +316,11 @@ fn open_entry(x: Record) -> Option<Entry>
 fn plain_entry(x: Record, entry: Entry) -> Option<Entry>
     ensures { λ r. ⌜ r ≡ plainEntry x entry ⌝ }
 {
-    if x.p == 0 && x.q == 0 && x.r == 0 && x.s == 0 && x.t == 0 { Some(entry) } else { None }
+    if x.p == 0 && x.q == 0 && x.r == 0 && x.s == 0 && x.t == 0 {
+        Some(entry)
+    } else {
+        None
+    }
 }
 
 /// A shape of the host's own, not 0.

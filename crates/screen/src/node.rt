@@ -9,15 +9,27 @@ pub enum Node {
     /// Node 0, which is there from the start.
     Body,
     /// An instruction.
-    Add { order: u32, value: u32, target: Option<u32> },
+    Add {
+        order: u32,
+        value: u32,
+        target: Option<u32>,
+    },
     /// A terminal: 0 Break to 12 Try.
-    Terminal { kind: u16, order: u32, value: Option<u32> },
+    Terminal {
+        kind: u16,
+        order: u32,
+        value: Option<u32>,
+    },
     /// One of a terminal's blocks.
     Arm,
     /// A reactive Scope.
-    Scope { scope: u32 },
+    Scope {
+        scope: u32,
+    },
     /// A PrunedScope, which only names a Scope.
-    Pruned { scope: u32 },
+    Pruned {
+        scope: u32,
+    },
 }
 
 impl Node {
@@ -27,7 +39,11 @@ impl Node {
     {
         match self {
             Node::Add { .. } => true,
-            Node::Body | Node::Terminal { .. } | Node::Arm | Node::Scope { .. } | Node::Pruned { .. } => false,
+            Node::Body
+            | Node::Terminal { .. }
+            | Node::Arm
+            | Node::Scope { .. }
+            | Node::Pruned { .. } => false,
         }
     }
 
@@ -37,7 +53,11 @@ impl Node {
     {
         match self {
             Node::Arm => true,
-            Node::Body | Node::Add { .. } | Node::Terminal { .. } | Node::Scope { .. } | Node::Pruned { .. } => false,
+            Node::Body
+            | Node::Add { .. }
+            | Node::Terminal { .. }
+            | Node::Scope { .. }
+            | Node::Pruned { .. } => false,
         }
     }
 

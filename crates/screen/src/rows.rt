@@ -4,7 +4,6 @@ ghost use mathlib.Core.Path.{_≡_};
 ghost use denote.Ref.{now as held};
 ghost use Rattle.block.specs.declared.record.Record.{Record as Fields};
 ghost use Rattle.screen.specs.Records.{typeRecord, identifierRecord, pathRecord, dependencyRecord, readRecord, valueRecord, shapeRecord};
-
 use block::Record;
 
 /// None, where a field may name a row or not.
@@ -76,7 +75,14 @@ pub impl Row for TypeRow as TypePut {
     ghost made = { typeRecord };
 
     fn record(&self) -> Record {
-        Record { tag: 1, p: self.kind, q: 0, r: self.shape, s: 0, t: 0 }
+        Record {
+            tag: 1,
+            p: self.kind,
+            q: 0,
+            r: self.shape,
+            s: 0,
+            t: 0,
+        }
     }
 }
 
@@ -84,7 +90,14 @@ pub impl Row for IdentifierRow as IdentifierPut {
     ghost made = { identifierRecord };
 
     fn record(&self) -> Record {
-        Record { tag: 2, p: 0, q: 0, r: self.declaration, s: self.typ, t: 0 }
+        Record {
+            tag: 2,
+            p: 0,
+            q: 0,
+            r: self.declaration,
+            s: self.typ,
+            t: 0,
+        }
     }
 }
 
@@ -92,7 +105,14 @@ pub impl Row for PathRow as PathPut {
     ghost made = { pathRecord };
 
     fn record(&self) -> Record {
-        Record { tag: 3, p: self.optional, q: self.kind, r: self.low, s: self.high, t: 0 }
+        Record {
+            tag: 3,
+            p: self.optional,
+            q: self.kind,
+            r: self.low,
+            s: self.high,
+            t: 0,
+        }
     }
 }
 
@@ -100,7 +120,14 @@ pub impl Row for DependencyRow as DependencyPut {
     ghost made = { dependencyRecord };
 
     fn record(&self) -> Record {
-        Record { tag: 5, p: 0, q: self.length, r: self.identifier, s: self.first, t: 0 }
+        Record {
+            tag: 5,
+            p: 0,
+            q: self.length,
+            r: self.identifier,
+            s: self.first,
+            t: 0,
+        }
     }
 }
 
@@ -108,7 +135,14 @@ pub impl Row for ReadRow as ReadPut {
     ghost made = { readRecord };
 
     fn record(&self) -> Record {
-        Record { tag: 8, p: 0, q: 0, r: self.identifier, s: 0, t: 0 }
+        Record {
+            tag: 8,
+            p: 0,
+            q: 0,
+            r: self.identifier,
+            s: 0,
+            t: 0,
+        }
     }
 }
 
@@ -116,7 +150,14 @@ pub impl Row for ValueRow as ValuePut {
     ghost made = { valueRecord };
 
     fn record(&self) -> Record {
-        Record { tag: 9, p: self.kind, q: self.q, r: self.r, s: self.s, t: self.t }
+        Record {
+            tag: 9,
+            p: self.kind,
+            q: self.q,
+            r: self.r,
+            s: self.s,
+            t: self.t,
+        }
     }
 }
 
@@ -124,6 +165,13 @@ pub impl Row for ShapeRow as ShapePut {
     ghost made = { shapeRecord };
 
     fn record(&self) -> Record {
-        Record { tag: 15, p: 0, q: 0, r: self.shape, s: 0, t: 0 }
+        Record {
+            tag: 15,
+            p: 0,
+            q: 0,
+            r: self.shape,
+            s: 0,
+            t: 0,
+        }
     }
 }

@@ -2,7 +2,6 @@
 
 ghost use mathlib.Core.Path.{_≡_};
 ghost use Rattle.screen.specs.Values.{optional, valueBy, valueOf, childrenOf};
-
 use crate::rows::NONE;
 use crate::rows::ValueRow;
 
@@ -22,15 +21,38 @@ pub enum Value {
     Simple(Reads),
     LoadLocal(Reads),
     /// A StoreLocal of kind Const.
-    StoreConst { reads: Reads, stored: u32 },
+    StoreConst {
+        reads: Reads,
+        stored: u32,
+    },
     /// Another StoreLocal.
-    StoreLocal { reads: Reads, stored: u32 },
-    Logical { left: u32, right: u32 },
-    Conditional { test: u32, consequent: u32, alternate: u32 },
-    Sequence { order: u32, value: u32, first: Option<u32> },
-    Optional { value: u32 },
+    StoreLocal {
+        reads: Reads,
+        stored: u32,
+    },
+    Logical {
+        left: u32,
+        right: u32,
+    },
+    Conditional {
+        test: u32,
+        consequent: u32,
+        alternate: u32,
+    },
+    Sequence {
+        order: u32,
+        value: u32,
+        first: Option<u32>,
+    },
+    Optional {
+        value: u32,
+    },
     /// An instruction inside a sequence.
-    Inner { order: u32, value: u32, next: Option<u32> },
+    Inner {
+        order: u32,
+        value: u32,
+        next: Option<u32>,
+    },
 }
 
 /// A row that a field names, or none.
@@ -52,17 +74,41 @@ impl Value {
     fn by_kind(row: ValueRow) -> Value
         ensures { λ r. ⌜ r ≡ valueBy row ⌝ }
     {
-        let reads = Reads { first: row.r, count: row.q };
+        let reads = Reads {
+            first: row.r,
+            count: row.q,
+        };
         match row.kind {
             0 => Value::Other(reads),
             5 => Value::LoadLocal(reads),
-            10 => Value::StoreConst { reads, stored: row.s },
-            11 => Value::StoreLocal { reads, stored: row.s },
-            12 => Value::Logical { left: row.r, right: row.s },
-            13 => Value::Conditional { test: row.r, consequent: row.s, alternate: row.t },
-            14 => Value::Sequence { order: row.r, value: row.s, first: optional(row.t) },
+            10 => Value::StoreConst {
+                reads,
+                stored: row.s,
+            },
+            11 => Value::StoreLocal {
+                reads,
+                stored: row.s,
+            },
+            12 => Value::Logical {
+                left: row.r,
+                right: row.s,
+            },
+            13 => Value::Conditional {
+                test: row.r,
+                consequent: row.s,
+                alternate: row.t,
+            },
+            14 => Value::Sequence {
+                order: row.r,
+                value: row.s,
+                first: optional(row.t),
+            },
             15 => Value::Optional { value: row.r },
-            16 => Value::Inner { order: row.r, value: row.s, next: optional(row.t) },
+            16 => Value::Inner {
+                order: row.r,
+                value: row.s,
+                next: optional(row.t),
+            },
             _ => Value::Simple(reads),
         }
     }
@@ -75,7 +121,11 @@ impl Value {
             Value::Other(_) | Value::Simple(_) | Value::LoadLocal(_) => [None, None, None, None],
             Value::StoreConst { .. } | Value::StoreLocal { .. } => [None, None, None, None],
             Value::Logical { left, right } => [Some(left), Some(right), None, None],
-            Value::Conditional { test, consequent, alternate } => [Some(test), Some(consequent), Some(alternate), None],
+            Value::Conditional {
+                test,
+                consequent,
+                alternate,
+            } => [Some(test), Some(consequent), Some(alternate), None],
             Value::Sequence { value, first, .. } => [Some(value), None, None, first],
             Value::Optional { value } => [Some(value), None, None, None],
             Value::Inner { value, next, .. } => [Some(value), None, None, next],

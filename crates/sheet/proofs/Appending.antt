@@ -30,20 +30,20 @@ pub attached-take : (m : ℕ) (rows : List NodeRow) (p a z : ℕ) → p < m → 
 attached-take m rows p a z h k = rw (getD-take m rows p noNode h) (go (eqb (row rows p .last) 4294967295) refl)
   where
     go : (b : Bool) → eqb (row rows p .last) 4294967295 ≡ b
-      → take m (cond b (set rows p (withEnds a z (row rows p))) (set (set rows (row rows p .last) (withNext a (row rows (row rows p .last)))) p (withLast z (row rows p))))
+        → take m (cond b (set rows p (withEnds a z (row rows p))) (set (set rows (row rows p .last) (withNext a (row rows (row rows p .last)))) p (withLast z (row rows p))))
         ≡ cond b (set (take m rows) p (withEnds a z (row rows p))) (set (set (take m rows) (row rows p .last) (withNext a (row (take m rows) (row rows p .last)))) p (withLast z (row rows p)))
     go true e = take-of-set m rows p (withEnds a z (row rows p))
     go false e =
         let l : row rows p .last < m = k (eqb-false (row rows p .last) 4294967295 e) in
         let new : NodeRow = withNext a (row rows (row rows p .last)) in
         rw (getD-take m rows (row rows p .last) noNode l)
-          (take-of-set m (set rows (row rows p .last) new) p (withLast z (row rows p)) ∙ ap (λ t. set t p (withLast z (row rows p))) (take-of-set m rows (row rows p .last) new))
+        (take-of-set m (set rows (row rows p .last) new) p (withLast z (row rows p)) ∙ ap (λ t. set t p (withLast z (row rows p))) (take-of-set m rows (row rows p .last) new))
 
 pub attached-drop : (m : ℕ) (rows : List NodeRow) (p a z : ℕ) → p < m → Below m (row rows p .last) → drop m (attached rows p a z) ≡ drop m rows
 attached-drop m rows p a z h k = go (eqb (row rows p .last) 4294967295) refl
   where
     go : (b : Bool) → eqb (row rows p .last) 4294967295 ≡ b
-      → drop m (cond b (set rows p (withEnds a z (row rows p))) (set (set rows (row rows p .last) (withNext a (row rows (row rows p .last)))) p (withLast z (row rows p)))) ≡ drop m rows
+        → drop m (cond b (set rows p (withEnds a z (row rows p))) (set (set rows (row rows p .last) (withNext a (row rows (row rows p .last)))) p (withLast z (row rows p)))) ≡ drop m rows
     go true e = drop-set-lt m rows p (withEnds a z (row rows p)) h
     go false e =
         let new : NodeRow = withNext a (row rows (row rows p .last)) in
@@ -51,8 +51,7 @@ attached-drop m rows p a z h k = go (eqb (row rows p .last) 4294967295) refl
 
 -- a row put at n and attached to p
 module _ (rows : List NodeRow) (n p : ℕ) (made : Record) (room : n < length rows) (within : p < n) (below : Below n (row (take n rows) p .last))
-  (wide : List NodeRow) (put : wide ≡ set rows n (fresh made p)) where
-
+    (wide : List NodeRow) (put : wide ≡ set rows n (fresh made p)) where
   holder-below : Below n (row wide p .last)
   holder-below =
       let ne : p ≢ n = λ e. omega arith in

@@ -33,10 +33,11 @@ at-agree rows rows′ n x p a z e l g h =
 
 pub links-agree : (rows rows′ : List NodeRow) (p : ℕ) (f : Forest) → length rows ≤ length rows′ → Agree rows rows′ (λ k. cnt k f) → Links rows p f → Links rows′ p f
 links-agree rows rows′ p bare l g h = tt
-links-agree rows rows′ p (tree n x cs ss) l g h =
-    (at-agree rows rows′ n x p (headOf cs) (lastOf cs) (headOf ss) l (g n (head-in n x cs ss)) (h .0),
-     links-agree rows rows′ n cs l (λ k m. g k (omega arith)) (h .1),
-     links-agree rows rows′ p ss l (λ k m. g k (omega arith)) (h .2))
+links-agree rows rows′ p (tree n x cs ss) l g h = (
+  at-agree rows rows′ n x p (headOf cs) (lastOf cs) (headOf ss) l (g n (head-in n x cs ss)) (h .0),
+  links-agree rows rows′ n cs l (λ k m. g k (omega arith)) (h .1),
+  links-agree rows rows′ p ss l (λ k m. g k (omega arith)) (h .2),
+)
 
 pub set-agree : (rows : List NodeRow) (i : ℕ) (r : NodeRow) (count : ℕ → ℕ) → count i ≡ 0 → Agree rows (set rows i r) count
 set-agree rows i r count z k l = getD-set-other rows i k r noNode (λ e. omega (arith, ap count e))

@@ -32,28 +32,30 @@ last-join d (tree m y ds ts) n x cs ss = last-join m ts n x cs ss
 
 -- the last of a chain is led on to another chain
 pub joined : (rows : List NodeRow) (p n : ℕ) (x : Node) (cs ss f : Forest) → Links rows p (tree n x cs ss) → Links rows p f → ((k : ℕ) → cnt k (tree n x cs ss) + cnt k f ≤ 1)
-  → Links (set rows (lastFrom n ss) (withNext (headOf f) (row rows (lastFrom n ss)))) p (tree n x cs (ss ⊕ f))
+    → Links (set rows (lastFrom n ss) (withNext (headOf f) (row rows (lastFrom n ss)))) p (tree n x cs (ss ⊕ f))
 joined rows p n x cs bare f h i d =
     let new : NodeRow = withNext (headOf f) (row rows n) in
-    let here = getD-set-same rows n new noNode (h .0 .within) in
-    (record {
-       within = omega (arith, h .0 .within, length-set rows n new);
-       made-is = ap (λ r. nodeOf (r .made)) here ∙ h .0 .made-is;
-       parent-is = ap (λ r. r .parent) here ∙ h .0 .parent-is;
-       first-is = ap (λ r. r .first) here ∙ h .0 .first-is;
-       last-is = ap (λ r. r .last) here ∙ h .0 .last-is;
-       next-is = ap (λ r. r .next) here;
-     },
-     links-set rows n cs n new (omega (arith, d n, same-self n)) (h .1),
-     links-set rows p f n new (omega (arith, d n, same-self n)) i)
+    let here = getD-set-same rows n new noNode (h .0 .within) in (
+      record {
+        within = omega (arith, h .0 .within, length-set rows n new);
+        made-is = ap (λ r. nodeOf (r .made)) here ∙ h .0 .made-is;
+        parent-is = ap (λ r. r .parent) here ∙ h .0 .parent-is;
+        first-is = ap (λ r. r .first) here ∙ h .0 .first-is;
+        last-is = ap (λ r. r .last) here ∙ h .0 .last-is;
+        next-is = ap (λ r. r .next) here;
+      },
+      links-set rows n cs n new (omega (arith, d n, same-self n)) (h .1),
+      links-set rows p f n new (omega (arith, d n, same-self n)) i,
+    )
 joined rows p n x cs (tree m y ds ts) f h i d =
     let z : ℕ = lastFrom m ts in
     let new : NodeRow = withNext (headOf f) (row rows z) in
     let there : 1 ≤ cnt z (tree m y ds ts) = last-in n m y ds ts in
-    let other : n ≢ z = λ e. omega (arith, d n, same-self n, subst (λ (w : ℕ). 1 ≤ cnt w (tree m y ds ts)) (sym e) there) in
-    (at-agree rows (set rows z new) n x p (headOf cs) (lastOf cs) m (omega (arith, length-set rows z new)) (getD-set-other rows z n new noNode other) (h .0),
-     links-set rows n cs z new (omega (arith, d z, there)) (h .1),
-     joined rows p m y ds ts f (h .2) i (λ k. omega (arith, d k)))
+    let other : n ≢ z = λ e. omega (arith, d n, same-self n, subst (λ (w : ℕ). 1 ≤ cnt w (tree m y ds ts)) (sym e) there) in (
+      at-agree rows (set rows z new) n x p (headOf cs) (lastOf cs) m (omega (arith, length-set rows z new)) (getD-set-other rows z n new noNode other) (h .0),
+      links-set rows n cs z new (omega (arith, d z, there)) (h .1),
+      joined rows p m y ds ts f (h .2) i (λ k. omega (arith, d k)),
+    )
 
 -- what the rows are once the chain g follows the children f of p
 pub record Attached (rows rows′ : List NodeRow) (p : ℕ) (x : Node) (q e : ℕ) (f g : Forest) : Type 0 where
@@ -63,7 +65,7 @@ pub record Attached (rows rows′ : List NodeRow) (p : ℕ) (x : Node) (q e : �
   pub others : (k : ℕ) → k ≢ p → cnt k f ≡ 0 → row rows′ k ≡ row rows k
 
 attach-none : (rows : List NodeRow) (p : ℕ) (x : Node) (q e : ℕ) (g : Forest) → At rows p x q 4294967295 4294967295 e → Links rows p g → ((k : ℕ) → same k p + cnt k g ≤ 1)
-  → Attached rows (set rows p (withEnds (headOf g) (lastOf g) (row rows p))) p x q e bare g
+    → Attached rows (set rows p (withEnds (headOf g) (lastOf g) (row rows p))) p x q e bare g
 attach-none rows p x q e g h i d =
     let new : NodeRow = withEnds (headOf g) (lastOf g) (row rows p) in
     let s = getD-set-same rows p new noNode (h .within) in
@@ -82,8 +84,8 @@ attach-none rows p x q e g h i d =
     }
 
 attach-some : (rows : List NodeRow) (p : ℕ) (x : Node) (q e n : ℕ) (y : Node) (cs ss : Forest) (m : ℕ) (w : Node) (ds ts : Forest) → At rows p x q n (lastFrom n ss) e → Links rows p (tree n y cs ss) → Links rows p (tree m w ds ts)
-  → ((k : ℕ) → same k p + cnt k (tree n y cs ss) + cnt k (tree m w ds ts) ≤ 1)
-  → Attached rows (set (set rows (lastFrom n ss) (withNext m (row rows (lastFrom n ss)))) p (withLast (lastFrom m ts) (row rows p))) p x q e (tree n y cs ss) (tree m w ds ts)
+    → ((k : ℕ) → same k p + cnt k (tree n y cs ss) + cnt k (tree m w ds ts) ≤ 1)
+    → Attached rows (set (set rows (lastFrom n ss) (withNext m (row rows (lastFrom n ss)))) p (withLast (lastFrom m ts) (row rows p))) p x q e (tree n y cs ss) (tree m w ds ts)
 attach-some rows p x q e n y cs ss m w ds ts h l i d =
     let o : ℕ = lastFrom n ss in
     let new1 : NodeRow = withNext m (row rows o) in
@@ -112,8 +114,8 @@ not-none : (x : ℕ) → x < 4294967295 → eqb x 4294967295 ≡ false
 not-none x h = grind (arith, tells)
 
 pub attach : (rows : List NodeRow) (p : ℕ) (x : Node) (q e : ℕ) (f : Forest) (m : ℕ) (w : Node) (ds ts : Forest) → length rows ≤ 1024 → At rows p x q (headOf f) (lastOf f) e → Links rows p f → Links rows p (tree m w ds ts)
-  → ((k : ℕ) → same k p + cnt k f + cnt k (tree m w ds ts) ≤ 1)
-  → Attached rows (attached rows p m (lastFrom m ts)) p x q e f (tree m w ds ts)
+    → ((k : ℕ) → same k p + cnt k f + cnt k (tree m w ds ts) ≤ 1)
+    → Attached rows (attached rows p m (lastFrom m ts)) p x q e f (tree m w ds ts)
 attach rows p x q e bare m w ds ts b h l i d =
     rw (h .last-is) (attach-none rows p x q e (tree m w ds ts) h i (λ k. omega (arith, d k)))
 attach rows p x q e (tree n y cs ss) m w ds ts b h l i d =

@@ -161,17 +161,17 @@ module _ (rows : List NodeRow) (ends : List ℕ) (m : ℕ) (old : List Line) (f 
 
 module _ (rows : List NodeRow) (ends : List ℕ) (m : ℕ) (old lines : List Line) (f : Forest) (node child level n : ℕ) (went : Went rows ends m old lines f node child level n) where
   pub enters : child ≢ 4294967295
-    → Went rows ends m old (set lines n (lineOf ends (level + 1) child (nodeOf (row rows child .made)))) f child (row rows child .first) (level + 1) (n + 1)
+      → Went rows ends m old (set lines n (lineOf ends (level + 1) child (nodeOf (row rows child .made)))) f child (row rows child .first) (level + 1) (n + 1)
   enters ne = go (went .way) (went .rest) (went .listing)
     where
       go : (w : Trail) (s : Forest) → Listing rows ends m old lines f w s node child level n
-        → Went rows ends m old (set lines n (lineOf ends (level + 1) child (nodeOf (row rows child .made)))) f child (row rows child .first) (level + 1) (n + 1)
+          → Went rows ends m old (set lines n (lineOf ends (level + 1) child (nodeOf (row rows child .made)))) f child (row rows child .first) (level + 1) (n + 1)
       go w bare h = absurd (ne (h .child-is))
       go w (tree c x cs ss) h =
           let a = h .links .0 in
           let new : Line = lineOf ends (level + 1) child (nodeOf (row rows child .made)) in
           let is : new ≡ lineOf ends (depth w + 1) c x =
-                ap (λ i. lineOf ends (level + 1) i (nodeOf (row rows i .made))) (h .child-is) ∙ ap (λ i. lineOf ends (i + 1) c (nodeOf (row rows c .made))) (h .level-is) ∙ ap (λ y. lineOf ends (depth w + 1) c y) (a .made-is) in
+          ap (λ i. lineOf ends (level + 1) i (nodeOf (row rows i .made))) (h .child-is) ∙ ap (λ i. lineOf ends (i + 1) c (nodeOf (row rows c .made))) (h .level-is) ∙ ap (λ y. lineOf ends (depth w + 1) c y) (a .made-is) in
           let inner : List Line = linesOf ends (depth w + 1 + 1) cs in
           let later : List Line = linesOf ends (depth w + 1) ss in
           let l : n < length lines = omega (arith, h .long, h .room, h .wide) in
@@ -181,17 +181,18 @@ module _ (rows : List NodeRow) (ends : List ℕ) (m : ℕ) (old lines : List Lin
             rest = cs;
             listing = record {
               few = h .few;
-              trails =
-                (record {
-                   within = a .within;
-                   parent-is = a .parent-is;
-                   next-is = a .next-is;
-                   not-root = λ e. apart 0 c z (sym e);
-                   links = h .links .2;
-                   rootless = omega (arith, h .rootless);
-                   named = λ k i. h .named k (omega arith);
-                 },
-                 h .trails);
+              trails = (
+                record {
+                  within = a .within;
+                  parent-is = a .parent-is;
+                  next-is = a .next-is;
+                  not-root = λ e. apart 0 c z (sym e);
+                  links = h .links .2;
+                  rootless = omega (arith, h .rootless);
+                  named = λ k i. h .named k (omega arith);
+                },
+                h .trails,
+              );
               links = h .links .1;
               rootless = omega (arith, h .rootless);
               named = λ k i. h .named k (omega arith);
@@ -199,11 +200,11 @@ module _ (rows : List NodeRow) (ends : List ℕ) (m : ℕ) (old lines : List Lin
               child-is = ap (λ i. row rows i .first) (h .child-is) ∙ a .first-is;
               level-is = ap (λ i. i + 1) (h .level-is);
               shown =
-                ap (λ t. t ++ (inner ++ (later ++ toCome ends w))) (take-more-set lines n new l)
-                ∙ append-assoc (take n lines) (new ∷ []) (inner ++ (later ++ toCome ends w))
-                ∙ ap (λ y. take n lines ++ (y ∷ (inner ++ (later ++ toCome ends w)))) is
-                ∙ ap (λ t. take n lines ++ (lineOf ends (depth w + 1) c x ∷ t)) (sym (append-assoc inner later (toCome ends w)))
-                ∙ h .shown;
+                  ap (λ t. t ++ (inner ++ (later ++ toCome ends w))) (take-more-set lines n new l)
+                  ∙ append-assoc (take n lines) (new ∷ []) (inner ++ (later ++ toCome ends w))
+                  ∙ ap (λ y. take n lines ++ (y ∷ (inner ++ (later ++ toCome ends w)))) is
+                  ∙ ap (λ t. take n lines ++ (lineOf ends (depth w + 1) c x ∷ t)) (sym (append-assoc inner later (toCome ends w)))
+                  ∙ h .shown;
               kept = drop-set-lt (n + 1) lines n new (omega arith) ∙ sym (drop-drop 1 n lines) ∙ ap (λ t. drop 1 t) (h .kept) ∙ drop-drop 1 n old;
               long = length-set lines n new ∙ h .long;
               wide = h .wide;
@@ -248,9 +249,10 @@ module _ (rows : List NodeRow) (ends : List ℕ) (m : ℕ) (old lines : List Lin
       go w (tree c x cs ss) h = absurd (omega (arith, h .child-is, h .links .0 .within, h .few))
       go (under w i t) bare h = absurd (h .trails .0 .not-root (sym (h .node-is) ∙ z))
       go base bare h =
-          let t : take n lines ≡ linesOf ends 1 f = sym (append-nil (take n lines)) ∙ h .shown in
-          (sym (length-take-le n lines (omega (arith, h .long, h .room, h .wide))) ∙ ap length t,
-           sym (take-append-drop n lines) ∙ ap (λ x. x ++ drop n lines) t ∙ ap (λ x. linesOf ends 1 f ++ x) (h .kept))
+          let t : take n lines ≡ linesOf ends 1 f = sym (append-nil (take n lines)) ∙ h .shown in (
+            sym (length-take-le n lines (omega (arith, h .long, h .room, h .wide))) ∙ ap length t,
+            sym (take-append-drop n lines) ∙ ap (λ x. x ++ drop n lines) t ∙ ap (λ x. linesOf ends 1 f ++ x) (h .kept),
+          )
 
 -- what keeps a turn safe, in plain numbers
 pub record Safe (rows : List NodeRow) (m node child level n : ℕ) : Type 0 where

@@ -50,4 +50,4 @@ module _ (is : List IdentifierRow) (vs : List ValueRow) (ss : List Status) where
   kept-rest (r ∷ rs) k =
       rest-is rs
       ∙ and-from (every (λ n. isListed (entryOf (n .made))) rs) (every (λ x. nodeListed x && nodeNamed is vs ss x) (nodesOf rs)) (k .records .1)
-        (ap (λ x. nodesKept is vs ss (x ∷ nodesOf rs)) (sym (ap nodeOf (k .records .0) ∙ body-made)) ∙ k .nodes)
+      (ap (λ x. nodesKept is vs ss (x ∷ nodesOf rs)) (sym (ap nodeOf (k .records .0) ∙ body-made)) ∙ k .nodes)

@@ -63,8 +63,7 @@ planted-once rows ss at f o h = standing-once (nodesOf rows) ss f o (h .standing
 
 -- a new node x in a planted tree
 module _ (rows : List NodeRow) (ss : List Status) (at : ℕ) (f : Forest) (o : ℕ) (planted : Planted rows ss at f o)
-  (made : Record) (x : Node) (room : length rows < 1024) (is : nodeOf made ≡ x) (holds : canHold (innermost root o f .node) x ≡ true) where
-
+    (made : Record) (x : Node) (room : length rows < 1024) (is : nodeOf made ≡ x) (holds : canHold (innermost root o f .node) x ≡ true) where
   grown-labels : nodesOf (appended rows at made) ≡ nodesOf rows ++ x ∷ []
   grown-labels = appended-nodes rows at made ∙ ap (λ y. nodesOf rows ++ y ∷ []) is
 
@@ -76,11 +75,11 @@ module _ (rows : List NodeRow) (ss : List Status) (at : ℕ) (f : Forest) (o : �
 
   -- the rows hold it
   grown-planted : (ss′ : List Status) (at′ o′ : ℕ) → Standing (nodesOf rows ++ x ∷ []) ss′ (grow o (length rows) x f) o′ → innermost root o′ (grow o (length rows) x f) .number ≡ at′
-    → Planted (appended rows at made) ss′ at′ (grow o (length rows) x f) o′
+      → Planted (appended rows at made) ss′ at′ (grow o (length rows) x f) o′
   grown-planted ss′ at′ o′ standing innermost-is =
       record {
         links = subst (λ (p : ℕ). Links (appended rows p made) 4294967295 (body (grow o (length rows) x f))) (planted .innermost-is)
-          (grown-links rows made x f o room is (planted .links) (planted-once rows ss at f o planted) (planted .standing .last));
+            (grown-links rows made x f o room is (planted .links) (planted-once rows ss at f o planted) (planted .standing .last));
         idle = λ k l z. idle k z (same-as k l z);
         standing = subst (λ (ns : List Node). Standing ns ss′ (grow o (length rows) x f) o′) (sym grown-labels) standing;
         innermost-is = innermost-is;
@@ -92,9 +91,11 @@ module _ (rows : List NodeRow) (ss : List Status) (at : ℕ) (f : Forest) (o : �
       same-as : (k : ℕ) → k < length (appended rows at made) → cnt k (body (grow o (length rows) x f)) ≡ 0 → (k < length rows) × (row (appended rows at made) k ≡ row rows k)
       same-as k l z =
           let ne : k ≢ length rows = not-new k z in
-          let low : k < length rows = omega (arith, appended-length rows at made) in
-          (low, subst (λ (p : ℕ). row (appended rows p made) k ≡ row rows k) (planted .innermost-is)
-            (grown-others rows made x f o room is (planted .links) (planted-once rows ss at f o planted) (planted .standing .last) k low (omega (arith, z, grown-cnt k))))
+          let low : k < length rows = omega (arith, appended-length rows at made) in (
+            low,
+            subst (λ (p : ℕ). row (appended rows p made) k ≡ row rows k) (planted .innermost-is)
+                (grown-others rows made x f o room is (planted .links) (planted-once rows ss at f o planted) (planted .standing .last) k low (omega (arith, z, grown-cnt k))),
+          )
 
       idle : (k : ℕ) → cnt k (body (grow o (length rows) x f)) ≡ 0 → (k < length rows) × (row (appended rows at made) k ≡ row rows k) → Idle (appended rows at made) k
       idle k z h =
@@ -108,13 +109,13 @@ module _ (rows : List NodeRow) (ss : List Status) (at : ℕ) (f : Forest) (o : �
 
 -- an Add's node is closed at once
 pub planted-add : (rows : List NodeRow) (ss : List Status) (at : ℕ) (f : Forest) (o : ℕ) → Planted rows ss at f o
-  → (made : Record) (x : Node) → length rows < 1024 → nodeOf made ≡ x → canHold (innermost root o f .node) x ≡ true → isAdd x ≡ true
-  → Planted (appended rows at made) ss at (grow o (length rows) x f) o
+    → (made : Record) (x : Node) → length rows < 1024 → nodeOf made ≡ x → canHold (innermost root o f .node) x ≡ true → isAdd x ≡ true
+    → Planted (appended rows at made) ss at (grow o (length rows) x f) o
 planted-add rows ss at f o h made x room is holds add =
     let s = h .standing in
     grown-planted rows ss at f o h made x room is holds ss at o
-      (standing-add (nodesOf rows) ss f o s (length rows) x (nodes-many rows ss at f o h made x room is holds) holds add)
-      (ap (λ (p : Spot). p .number) (grow-innermost root o (length rows) x f (s .last)) ∙ h .innermost-is)
+    (standing-add (nodesOf rows) ss f o s (length rows) x (nodes-many rows ss at f o h made x room is holds) holds add)
+    (ap (λ (p : Spot). p .number) (grow-innermost root o (length rows) x f (s .last)) ∙ h .innermost-is)
 
 -- the node is the innermost open one then
 innermost-new : (o : ℕ) (n : ℕ) (x : Node) (f : Forest) → opens o f ≡ true → innermost root (o + 1) (grow o n x f) .number ≡ n
@@ -122,20 +123,20 @@ innermost-new o n x f h = rw add-one (ap (λ (p : Spot). p .number) (grow-innerm
 
 -- a Terminal, an Arm or a PrunedScope stays open
 pub planted-open : (rows : List NodeRow) (ss : List Status) (at : ℕ) (f : Forest) (o : ℕ) → Planted rows ss at f o
-  → (made : Record) (x : Node) → length rows < 1024 → nodeOf made ≡ x → canHold (innermost root o f .node) x ≡ true → isAdd x ≡ false → isScope x ≡ false → o < 63
-  → Planted (appended rows at made) ss (length rows) (grow o (length rows) x f) (o + 1)
+    → (made : Record) (x : Node) → length rows < 1024 → nodeOf made ≡ x → canHold (innermost root o f .node) x ≡ true → isAdd x ≡ false → isScope x ≡ false → o < 63
+    → Planted (appended rows at made) ss (length rows) (grow o (length rows) x f) (o + 1)
 planted-open rows ss at f o h made x room is holds other plain few =
     let s = h .standing in
     grown-planted rows ss at f o h made x room is holds ss (length rows) (o + 1)
-      (standing-open (nodesOf rows) ss f o s (length rows) x (nodes-many rows ss at f o h made x room is holds) holds other plain few)
-      (innermost-new o (length rows) x f (s .last))
+    (standing-open (nodesOf rows) ss f o s (length rows) x (nodes-many rows ss at f o h made x room is holds) holds other plain few)
+    (innermost-new o (length rows) x f (s .last))
 
 -- so does an unused Scope, which stands then
 pub planted-scope : (rows : List NodeRow) (ss : List Status) (at : ℕ) (f : Forest) (o : ℕ) → Planted rows ss at f o
-  → (made : Record) (k : ℕ) → length rows < 1024 → nodeOf made ≡ Scope k → canHold (innermost root o f .node) (Scope k) ≡ true → k < length ss → getD ss k Unused ≡ Unused → o < 63
-  → Planted (appended rows at made) (set ss k Stood) (length rows) (grow o (length rows) (Scope k) f) (o + 1)
+    → (made : Record) (k : ℕ) → length rows < 1024 → nodeOf made ≡ Scope k → canHold (innermost root o f .node) (Scope k) ≡ true → k < length ss → getD ss k Unused ≡ Unused → o < 63
+    → Planted (appended rows at made) (set ss k Stood) (length rows) (grow o (length rows) (Scope k) f) (o + 1)
 planted-scope rows ss at f o h made k room is holds l unused few =
     let s = h .standing in
     grown-planted rows ss at f o h made (Scope k) room is holds (set ss k Stood) (length rows) (o + 1)
-      (standing-scope (nodesOf rows) ss f o s (length rows) k (nodes-many rows ss at f o h made (Scope k) room is holds) holds l unused few)
-      (innermost-new o (length rows) (Scope k) f (s .last))
+    (standing-scope (nodesOf rows) ss f o s (length rows) k (nodes-many rows ss at f o h made (Scope k) room is holds) holds l unused few)
+    (innermost-new o (length rows) (Scope k) f (s .last))

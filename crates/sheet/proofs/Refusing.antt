@@ -25,7 +25,7 @@ firstOf a b c d e f =
 
 -- the tests on the tables are those on the sheet
 pub refused-held : (m : Memory) (σ : State) (e : Entry) → Holds m σ → (a b c d f g : Bool) → named (rowsOf m) (statusesOf (items (m .scopes))) e ≡ a → used (rowsOf m) (statusesOf (items (m .scopes))) e ≡ b
-  → deep (rowsOf m) e ≡ c → noRoom (rowsOf m) (statusesOf (items (m .scopes))) e ≡ d → misplaced (topOf σ) (σ .opened) e ≡ f → crowded (σ .opened) e ≡ g → refusedOf σ e ≡ firstOf a b c d f g
+    → deep (rowsOf m) e ≡ c → noRoom (rowsOf m) (statusesOf (items (m .scopes))) e ≡ d → misplaced (topOf σ) (σ .opened) e ≡ f → crowded (σ .opened) e ≡ g → refusedOf σ e ≡ firstOf a b c d f g
 refused-held m σ e h a b c d f g p q r s t u =
     ap (λ (w : Rows). refusedBy w (statuses (σ .scopes)) (topOf σ) (σ .opened) e) (sym (h .rows)) ∙ ap (λ (ss : List Status). refusedBy (rowsOf m) ss (topOf σ) (σ .opened) e) (sym (holds-statuses m σ h))
     ∙ ap (λ x. firstOf x (used W S e) (deep W e) (noRoom W S e) (misplaced (topOf σ) (σ .opened) e) (crowded (σ .opened) e)) p
@@ -37,5 +37,6 @@ refused-held m σ e h a b c d f g p q r s t u =
   where
     W : Rows
     W = rowsOf m
+
     S : List Status
     S = statusesOf (items (m .scopes))

@@ -128,7 +128,7 @@ fits-from w ss f =
 scopes-of : (is : List IdentifierRow) (vs : List ValueRow) (ss : List Status) (rs : List NodeRow) → every (nodeRowKept is vs ss) rs ≡ true → (k : ℕ) → k < length rs → ScopeBelow (length ss) (nodeOf (row rs k .made))
 scopes-of is vs ss [] h k l = absurd (omega arith)
 scopes-of is vs ss (r ∷ rs) h zero l =
-    named-below is vs ss (nodeOf (r .made)) 
+    named-below is vs ss (nodeOf (r .made))
     (second (nodeListed (nodeOf (r .made))) (nodeNamed is vs ss (nodeOf (r .made)))
     (second (isListed (entryOf (r .made))) (nodeListed (nodeOf (r .made)) && nodeNamed is vs ss (nodeOf (r .made))) (first (nodeRowKept is vs ss r) (every (nodeRowKept is vs ss) rs) h)))
 scopes-of is vs ss (r ∷ rs) h (suc k) l = scopes-of is vs ss rs (second (nodeRowKept is vs ss r) (every (nodeRowKept is vs ss) rs) h) k (omega arith)
@@ -173,27 +173,27 @@ module _ (m : Memory) (in′ : Within m) where
 
   -- every row by itself
   pub rows-sound-from : Fitted m → frontKept (rowsOf m) (statusesOf (items (m .scopes))) ≡ true → middleKept (rowsOf m) (statusesOf (items (m .scopes))) ≡ true
-    → valuesKept (items (m .identifiers)) (items (m .reads)) [] (items (m .values)) ≡ true → every (λ n. leb n 64) (levelsOf (items (m .values))) ≡ true
-    → shapesKept (rowsOf m) (statusesOf (items (m .scopes))) ≡ true → NodesKept (items (m .identifiers)) (items (m .values)) (statusesOf (items (m .scopes))) (items (m .nodes))
-    → fresh (length (items (m .values))) (replicate 1024 false) (namings (items (m .values)) (nodesOf (items (m .nodes)))) ≡ true → RowsSound m
+      → valuesKept (items (m .identifiers)) (items (m .reads)) [] (items (m .values)) ≡ true → every (λ n. leb n 64) (levelsOf (items (m .values))) ≡ true
+      → shapesKept (rowsOf m) (statusesOf (items (m .scopes))) ≡ true → NodesKept (items (m .identifiers)) (items (m .values)) (statusesOf (items (m .scopes))) (items (m .nodes))
+      → fresh (length (items (m .values))) (replicate 1024 false) (namings (items (m .values)) (nodesOf (items (m .nodes)))) ≡ true → RowsSound m
   rows-sound-from f front middle values levels shapes nodes users =
       let few : length (items (m .values)) ≤ 1024 = omega (arith, items-many (m .values) (in′ .values), f .values) in
       record {
         kept =
-          record {
-            fitting = fitted-fits f;
-            types = first _ _ (first _ _ front);
-            identifiers = second _ _ (first _ _ front);
-            paths = second _ _ front;
-            dependencies = first _ _ (first _ _ middle);
-            declarations = second _ _ (first _ _ middle);
-            reads = second _ _ middle;
-            values = values;
-            levels = levels;
-            shapes = shapes;
-            nodes = nodes .nodes;
-            users = fresh-plain (length (items (m .values))) (replicate 1024 false) (namings (items (m .values)) (nodesOf (items (m .nodes)))) (unmarked-rows (length (items (m .values))) 1024 few .room) users .once;
-          };
+            record {
+              fitting = fitted-fits f;
+              types = first _ _ (first _ _ front);
+              identifiers = second _ _ (first _ _ front);
+              paths = second _ _ front;
+              dependencies = first _ _ (first _ _ middle);
+              declarations = second _ _ (first _ _ middle);
+              reads = second _ _ middle;
+              values = values;
+              levels = levels;
+              shapes = shapes;
+              nodes = nodes .nodes;
+              users = fresh-plain (length (items (m .values))) (replicate 1024 false) (namings (items (m .values)) (nodesOf (items (m .nodes)))) (unmarked-rows (length (items (m .values))) 1024 few .room) users .once;
+            };
         records = nodes .records;
       }
 
@@ -255,18 +255,19 @@ sound-from m in′ r s t =
     let same : statusesOf (items (m .scopes)) ≡ statuses ss = statuses-are (items (m .scopes)) (items (m .declarations)) (items (m .scopes)) ss (s .1 .held) in
     let dependencies : m .dependencies .count ≡ length (items (m .dependencies)) = sym (items-many (m .dependencies) (in′ .dependencies)) in
     let declarations : length (items (m .declarations)) ≡ length (map declarationOf (items (m .declarations))) = sym (length-map (items (m .declarations)) declarationOf) in
-    let planted : Planted (items (m .nodes)) (statuses ss) (m .innermost) (t .0) (t .1) = subst (λ (x : List Status). Planted (items (m .nodes)) x (m .innermost) (t .0) (t .1)) same (t .2) in
-    (record { rows = rowsOf m; scopes = ss; tree = t .0; opened = t .1 },
-     record {
-       counts = in′;
-       rows = refl;
-       chained = s .1;
-       records = r .records;
-       planted = planted;
-       formed =
-         record {
-           rows = subst (λ (x : List Status). RowsKept (rowsOf m) x) same (r .kept);
-           scopes = subst (λ (n : ℕ). ScopesKept ss (length (items (m .dependencies))) n) declarations (subst (λ (n : ℕ). ScopesKept ss n (length (items (m .declarations)))) dependencies (s .2));
-           tree = planted .standing;
-         };
-     })
+    let planted : Planted (items (m .nodes)) (statuses ss) (m .innermost) (t .0) (t .1) = subst (λ (x : List Status). Planted (items (m .nodes)) x (m .innermost) (t .0) (t .1)) same (t .2) in (
+      record { rows = rowsOf m; scopes = ss; tree = t .0; opened = t .1 },
+      record {
+        counts = in′;
+        rows = refl;
+        chained = s .1;
+        records = r .records;
+        planted = planted;
+        formed =
+            record {
+              rows = subst (λ (x : List Status). RowsKept (rowsOf m) x) same (r .kept);
+              scopes = subst (λ (n : ℕ). ScopesKept ss (length (items (m .dependencies))) n) declarations (subst (λ (n : ℕ). ScopesKept ss n (length (items (m .declarations)))) dependencies (s .2));
+              tree = planted .standing;
+            };
+      },
+    )

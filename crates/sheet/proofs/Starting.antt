@@ -38,18 +38,18 @@ holds-new m l =
     let one : items (cleared m .nodes) ≡ bodyRow ∷ [] = take-more-set (m .nodes .rows) 0 bodyRow l in
     record {
       counts =
-        record {
-          types = omega arith;
-          identifiers = omega arith;
-          paths = omega arith;
-          scopes = omega arith;
-          dependencies = omega arith;
-          declarations = omega arith;
-          reads = omega arith;
-          values = omega arith;
-          shapes = omega arith;
-          nodes = omega (arith, length-set (m .nodes .rows) 0 bodyRow);
-        };
+          record {
+            types = omega arith;
+            identifiers = omega arith;
+            paths = omega arith;
+            scopes = omega arith;
+            dependencies = omega arith;
+            declarations = omega arith;
+            reads = omega arith;
+            values = omega arith;
+            shapes = omega arith;
+            nodes = omega (arith, length-set (m .nodes .rows) 0 bodyRow);
+          };
       rows = ap (withNodes newRows) (ap nodesOf one ∙ ap (λ x. x ∷ []) body-made);
       chained = record { held = tt; loose = λ n h _. absurd (omega arith); loose-merged = λ n h _. absurd (omega arith) };
       records = subst (λ (xs : List NodeRow). recordsListed xs) (sym one) (refl, refl);

@@ -48,11 +48,12 @@ module _ (m : Memory) (σ : State) (h : Holds m σ) where
   held-once = planted-once (items (m .nodes)) (statuses (σ .scopes)) (m .innermost) (σ .tree) (σ .opened) (h .planted)
 
   pub listable : Listable (items (m .nodes)) (length (items (m .scopes)))
-  listable =
-      (σ .tree,
-       h .planted .links,
-       held-once,
-       λ k i. named-by-rows (items (m .nodes)) 4294967295 (length (items (m .scopes))) (body (σ .tree)) (h .planted .links) (node-scopes m (h .counts) (holds-rows m σ h)) k (omega arith))
+  listable = (
+    σ .tree,
+    h .planted .links,
+    held-once,
+    λ k i. named-by-rows (items (m .nodes)) 4294967295 (length (items (m .scopes))) (body (σ .tree)) (h .planted .links) (node-scopes m (h .counts) (holds-rows m σ h)) k (omega arith),
+  )
 
   pub few-nodes : length (items (m .nodes)) ≤ 1024
   few-nodes = omega (arith, items-many (m .nodes) (h .counts .nodes), holds-fitted m σ h .nodes)

@@ -10,12 +10,10 @@ ghost use Rattle.screen.specs.Levels.{highest, levelsOf};
 ghost use Rattle.screen.specs.Refused.{deep};
 ghost use Rattle.sheet.specs.Tables.{items, memory};
 ghost use Rattle.sheet.specs.Holds.{rowsOf, Within};
-
+use crate::sheet::Sheet;
 use screen::Entry;
 use screen::Value;
 use screen::ValueRow;
-
-use crate::sheet::Sheet;
 
 /// The deepest that values may nest.
 const MOST: u8 = 64;
@@ -24,7 +22,11 @@ const MOST: u8 = 64;
 fn level_at(levels: &[u8], k: u32) -> u8
     ensures { λ r. ⌜ r ≡ getD (now (levels .entry)) k 0 ⌝ }
 {
-    if (k as usize) < levels.len() { levels[k as usize] } else { 0 }
+    if (k as usize) < levels.len() {
+        levels[k as usize]
+    } else {
+        0
+    }
 }
 
 /// The highest level of the values named here, of which some are none.

@@ -9,13 +9,11 @@ ghost use Rattle.screen.specs.Standing.{openings};
 ghost use Rattle.screen.specs.Lines.{lineOf, linesOf, plain};
 ghost use Rattle.sheet.specs.Links.{Links};
 ghost use Rattle.sheet.specs.Listed.{endsOf, ScopeBelow};
-
+use crate::rows::NodeRow;
+use crate::rows::ScopeRow;
 use screen::Line;
 use screen::NONE;
 use screen::Node;
-
-use crate::rows::NodeRow;
-use crate::rows::ScopeRow;
 
 /// Writes a line for each node below the body, a node before its children, and answers how many.
 pub(crate) fn list(nodes: &[NodeRow], scopes: &[ScopeRow], lines: &mut [Line]) -> u32
@@ -23,7 +21,7 @@ pub(crate) fn list(nodes: &[NodeRow], scopes: &[ScopeRow], lines: &mut [Line]) -
     requires room { ⌜ 1024 ≤ length (now lines) ⌝ }
     requires tree { ⌜ ((f : Forest) × Links (now nodes) 4294967295 (body f) × ((k : ℕ) → cnt k (body f) ≤ 1) × ((k : ℕ) → 0 < openings k f → k < length (now scopes))) ⌝ }
     ensures { λ r. ⌜ ((f : Forest) → Links (now (nodes .entry)) 4294967295 (body f) → ((k : ℕ) → cnt k (body f) ≤ 1)
-      → (r ≡ length (linesOf (endsOf (now (scopes .entry))) 1 f)) × (now (lines .exit) ≡ linesOf (endsOf (now (scopes .entry))) 1 f ++ drop r (now (lines .entry)))) ⌝ }
+        → (r ≡ length (linesOf (endsOf (now (scopes .entry))) 1 f)) × (now (lines .exit) ≡ linesOf (endsOf (now (scopes .entry))) 1 f ++ drop r (now (lines .entry)))) ⌝ }
 {
     let mut node: u32 = 0;
     let mut child = nodes[0].first;
@@ -57,7 +55,13 @@ fn line(node: Node, number: u32, level: u32, scopes: &[ScopeRow]) -> Line
         Node::Add { .. } => plain_line(level, number, b'I'),
         Node::Terminal { .. } => plain_line(level, number, b'T'),
         Node::Arm => plain_line(level, number, b'A'),
-        Node::Scope { scope } => Line { level, node: number, scope, end: scopes[scope as usize].end, letter: b'S' },
+        Node::Scope { scope } => Line {
+            level,
+            node: number,
+            scope,
+            end: scopes[scope as usize].end,
+            letter: b'S',
+        },
         Node::Pruned { .. } => plain_line(level, number, b'P'),
     }
 }
@@ -66,5 +70,11 @@ fn line(node: Node, number: u32, level: u32, scopes: &[ScopeRow]) -> Line
 fn plain_line(level: u32, number: u32, letter: u8) -> Line
     ensures { λ r. ⌜ r ≡ plain level number letter ⌝ }
 {
-    Line { level, node: number, scope: NONE, end: NONE, letter }
+    Line {
+        level,
+        node: number,
+        scope: NONE,
+        end: NONE,
+        letter,
+    }
 }

@@ -6,7 +6,8 @@ ghost use Rattle.screen.specs.Named.{operand, optionalOperand, optionalPut, inn
 ghost use Rattle.sheet.specs.Tables.{items, memory};
 ghost use Rattle.sheet.specs.Planted.{statusesOf};
 ghost use Rattle.sheet.specs.Holds.{rowsOf, Within};
-
+use crate::rows::ScopeRow;
+use crate::sheet::Sheet;
 use screen::Entry;
 use screen::IdentifierRow;
 use screen::Node;
@@ -16,9 +17,6 @@ use screen::ReadRow;
 use screen::Reads;
 use screen::Value;
 use screen::ValueRow;
-
-use crate::rows::ScopeRow;
-use crate::sheet::Sheet;
 
 /// The kind of a value that is an inner instruction.
 const INNER: u8 = 16;
@@ -82,20 +80,34 @@ fn reads_put(rows: &[ReadRow], reads: Reads) -> bool
 }
 
 /// Whether a value's reads, its stored identifier and its children are put.
-pub(crate) fn value_named(identifiers: &[IdentifierRow], reads: &[ReadRow], values: &[ValueRow], value: Value) -> bool
+pub(crate) fn value_named(
+    identifiers: &[IdentifierRow],
+    reads: &[ReadRow],
+    values: &[ValueRow],
+    value: Value,
+) -> bool
     ensures { λ r. ⌜ r ≡ valueNamed (now (identifiers .entry)) (now (reads .entry)) (now (values .entry)) value ⌝ }
 {
     match value {
         Value::Other(r) => reads_put(reads, r),
         Value::Simple(r) => reads_put(reads, r),
         Value::LoadLocal(r) => reads_put(reads, r),
-        Value::StoreConst { reads: r, stored } => reads_put(reads, r) && is_put(identifiers, stored),
-        Value::StoreLocal { reads: r, stored } => reads_put(reads, r) && is_put(identifiers, stored),
+        Value::StoreConst { reads: r, stored } => reads_put(reads, r)
+            && is_put(identifiers, stored),
+        Value::StoreLocal { reads: r, stored } => reads_put(reads, r)
+            && is_put(identifiers, stored),
         Value::Logical { left, right } => is_operand(values, left) && is_operand(values, right),
-        Value::Conditional { test, consequent, alternate } => {
-            is_operand(values, test) && is_operand(values, consequent) && is_operand(values, alternate)
+        Value::Conditional {
+            test,
+            consequent,
+            alternate,
+        } => {
+            is_operand(values, test)
+                && is_operand(values, consequent)
+                && is_operand(values, alternate)
         }
-        Value::Sequence { value, first, .. } => is_operand(values, value) && is_inner(values, first),
+        Value::Sequence { value, first, .. } => is_operand(values, value)
+            && is_inner(values, first),
         Value::Optional { value } => is_operand(values, value),
         Value::Inner { value, next, .. } => is_operand(values, value) && is_inner(values, next),
     }
@@ -109,12 +121,18 @@ fn scope_put(scopes: &[ScopeRow], k: u32) -> bool
 }
 
 /// Whether a node's value, its target or its Scope is put.
-pub(crate) fn node_named(identifiers: &[IdentifierRow], values: &[ValueRow], scopes: &[ScopeRow], node: Node) -> bool
+pub(crate) fn node_named(
+    identifiers: &[IdentifierRow],
+    values: &[ValueRow],
+    scopes: &[ScopeRow],
+    node: Node,
+) -> bool
     ensures { λ r. ⌜ r ≡ nodeNamed (now (identifiers .entry)) (now (values .entry)) (statusesOf (now (scopes .entry))) node ⌝ }
 {
     match node {
         Node::Body => true,
-        Node::Add { value, target, .. } => is_operand(values, value) && is_optional_put(identifiers, target),
+        Node::Add { value, target, .. } => is_operand(values, value)
+            && is_optional_put(identifiers, target),
         Node::Terminal { value, .. } => is_optional_operand(values, value),
         Node::Arm => true,
         Node::Scope { scope } => scope_put(scopes, scope),
@@ -144,8 +162,10 @@ fn part_named(s: &Sheet<'_>, part: Part) -> bool
 {
     let identifiers = s.identifiers.put();
     match part {
-        Part::Dependency(row) => is_put(identifiers, row.identifier) && is_span(s.paths.put(), row.first, row.length),
-        Part::Declaration { key, declared } => is_put(identifiers, key) && is_put(identifiers, declared),
+        Part::Dependency(row) => is_put(identifiers, row.identifier)
+            && is_span(s.paths.put(), row.first, row.length),
+        Part::Declaration { key, declared } => is_put(identifiers, key)
+            && is_put(identifiers, declared),
         Part::Reassignment { identifier } => is_put(identifiers, identifier),
     }
 }
@@ -159,8 +179,18 @@ impl Sheet<'_> {
         match entry {
             Entry::Put(put) => put_named(self, put),
             Entry::Part(part) => scope_put(self.scopes.put(), 0) && part_named(self, part),
-            Entry::Value(row) => value_named(self.identifiers.put(), self.reads.put(), self.values.put(), Value::of(row)),
-            Entry::Node(node) => node_named(self.identifiers.put(), self.values.put(), self.scopes.put(), node),
+            Entry::Value(row) => value_named(
+                self.identifiers.put(),
+                self.reads.put(),
+                self.values.put(),
+                Value::of(row),
+            ),
+            Entry::Node(node) => node_named(
+                self.identifiers.put(),
+                self.values.put(),
+                self.scopes.put(),
+                node,
+            ),
             Entry::Close => true,
             Entry::List => true,
         }

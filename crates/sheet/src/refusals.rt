@@ -7,18 +7,16 @@ ghost use Rattle.sheet.specs.Tables.{items, memory};
 ghost use Rattle.sheet.specs.Planted.{nodesOf, statusesOf};
 ghost use Rattle.sheet.specs.Holds.{declarationOf, rowsOf, Within, Holds, Sound};
 ghost use mathlib.Core.List.{map};
-
-use screen::Entry;
-use screen::Node;
-use screen::Part;
-use screen::Put;
-use screen::Refusal;
-
 use crate::rows::DeclarationRow;
 use crate::rows::NodeRow;
 use crate::rows::ScopeRow;
 use crate::sheet::Sheet;
 use crate::tree::open_count;
+use screen::Entry;
+use screen::Node;
+use screen::Part;
+use screen::Put;
+use screen::Refusal;
 
 /// The most nodes that may be open below the body.
 const MOST_OPEN: u32 = 63;
@@ -128,7 +126,10 @@ fn innermost(s: &Sheet<'_>) -> (u32, Node)
 {
     let nodes = s.nodes.put();
     let at = s.innermost;
-    (open_count(nodes, at), Node::made_by(nodes[at as usize].made))
+    (
+        open_count(nodes, at),
+        Node::made_by(nodes[at as usize].made),
+    )
 }
 
 /// Whether the innermost open node cannot hold this child, or Close finds only the body open.

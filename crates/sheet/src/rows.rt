@@ -1,7 +1,6 @@
 //! The rows that are linked to each other by number. None is 4,294,967,295.
 
 ghost use Rattle.screen.specs.Records.{declarationRecord};
-
 use block::Record;
 use screen::Row;
 
@@ -41,6 +40,13 @@ pub impl Row for DeclarationRow as DeclarationPut {
     ghost made = { λ d. declarationRecord (d .key) (d .declared) };
 
     fn record(&self) -> Record {
-        Record { tag: 6, p: 0, q: 0, r: self.key, s: self.declared, t: 0 }
+        Record {
+            tag: 6,
+            p: 0,
+            q: 0,
+            r: self.key,
+            s: self.declared,
+            t: 0,
+        }
     }
 }

@@ -1,5 +1,9 @@
 //! The memory that a host lends.
 
+use crate::rows::DeclarationRow;
+use crate::rows::NodeRow;
+use crate::rows::ScopeRow;
+use crate::table::Table;
 use screen::DependencyRow;
 use screen::IdentifierRow;
 use screen::Line;
@@ -8,11 +12,6 @@ use screen::ReadRow;
 use screen::ShapeRow;
 use screen::TypeRow;
 use screen::ValueRow;
-
-use crate::rows::DeclarationRow;
-use crate::rows::NodeRow;
-use crate::rows::ScopeRow;
-use crate::table::Table;
 
 /// A sheet: its tables, and the innermost open node.
 #[derive(Drop)]

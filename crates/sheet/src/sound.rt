@@ -116,7 +116,12 @@ fn node_rows_kept(s: &Sheet<'_>) -> bool
     requires { ⌜ Within (memory (now s)) ⌝ }
     ensures { λ r. ⌜ Decides r (NodesKept (items (memory (now (s .entry)) .identifiers)) (items (memory (now (s .entry)) .values)) (statusesOf (items (memory (now (s .entry)) .scopes))) (items (memory (now (s .entry)) .nodes))) ⌝ }
 {
-    nodes_kept(s.identifiers.put(), s.values.put(), s.scopes.put(), s.nodes.put())
+    nodes_kept(
+        s.identifiers.put(),
+        s.values.put(),
+        s.scopes.put(),
+        s.nodes.put(),
+    )
 }
 
 /// Whether each value that is named is put, and has one user.

@@ -17,17 +17,15 @@ ghost use Rattle.sheet.specs.Holds.{Holds, Sound};
 ghost use Rattle.sheet.specs.Kept.{Long, WorkLong, AllLong, RestKept, Ready};
 ghost use Rattle.sheet.specs.Written.{cleared};
 ghost use Rattle.sheet.specs.Takes.{Takes, Keeps, withLines};
-
-use block::Record;
-use screen::Answer;
-use screen::NONE;
-use screen::Entry;
-use screen::Refusal;
-
 use crate::list::list;
 use crate::rows::NodeRow;
 use crate::sheet::Sheet;
 use crate::sheet::Work;
+use block::Record;
+use screen::Answer;
+use screen::Entry;
+use screen::NONE;
+use screen::Refusal;
 
 /// Whether each of the sheet's tables is as long as its limit.
 fn is_long(s: &Sheet<'_>) -> bool
@@ -63,7 +61,7 @@ impl Sheet<'_> {
         requires long { ⌜ WorkLong (workMemory (now work)) ⌝ }
         ensures long { λ _. ⌜ WorkLong (workMemory (now (work .exit))) ⌝ }
         ensures lines { λ r. ⌜ ((σ : State) → Holds (memory (now (self .entry))) σ
-          → (r ≡ length (listing σ)) × (workMemory (now (work .exit)) ≡ withLines (workMemory (now (work .entry))) (listing σ ++ drop r (workMemory (now (work .entry)) .lines)))) ⌝ }
+            → (r ≡ length (listing σ)) × (workMemory (now (work .exit)) ≡ withLines (workMemory (now (work .entry))) (listing σ ++ drop r (workMemory (now (work .entry)) .lines)))) ⌝ }
     {
         list(self.nodes.put(), self.scopes.put(), work.lines)
     }
@@ -73,7 +71,7 @@ impl Sheet<'_> {
         requires { ⌜ Ready (memory (now self)) (workMemory (now work)) ⌝ }
         ensures ready { λ _. ⌜ Ready (memory (now (self .exit))) (workMemory (now (work .exit))) ⌝ }
         ensures takes { λ r. ⌜ ((σ : State) → Holds (memory (now (self .entry))) σ
-          → Takes σ (fieldsOf «record») (memory (now (self .exit))) (workMemory (now (work .entry))) (workMemory (now (work .exit))) r) ⌝ }
+            → Takes σ (fieldsOf «record») (memory (now (self .exit))) (workMemory (now (work .entry))) (workMemory (now (work .exit))) r) ⌝ }
         ensures keeps { λ r. ⌜ Keeps (memory (now (self .entry))) (memory (now (self .exit))) (workMemory (now (work .entry))) (workMemory (now (work .exit))) r ⌝ }
     {
         let made = Record::split(record);
@@ -95,7 +93,7 @@ impl Sheet<'_> {
         ensures short { λ r. ⌜ ((AllLong (memory (now (self .entry))) (workMemory (now (work .entry))) → ⊥) → r ≡ Err Short) ⌝ }
         ensures unsound { λ r. ⌜ (AllLong (memory (now (self .entry))) (workMemory (now (work .entry))) → (Sound (memory (now (self .entry))) → ⊥) → r ≡ Err Unsound) ⌝ }
         ensures takes { λ r. ⌜ (AllLong (memory (now (self .entry))) (workMemory (now (work .entry))) → (σ : State) → Holds (memory (now (self .entry))) σ
-          → Takes σ (fieldsOf «record») (memory (now (self .exit))) (workMemory (now (work .entry))) (workMemory (now (work .exit))) r) ⌝ }
+            → Takes σ (fieldsOf «record») (memory (now (self .exit))) (workMemory (now (work .entry))) (workMemory (now (work .exit))) r) ⌝ }
         ensures keeps { λ r. ⌜ Keeps (memory (now (self .entry))) (memory (now (self .exit))) (workMemory (now (work .entry))) (workMemory (now (work .exit))) r ⌝ }
         ensures ready { λ _. ⌜ (Ready (memory (now (self .entry))) (workMemory (now (work .entry))) → Ready (memory (now (self .exit))) (workMemory (now (work .exit)))) ⌝ }
     {
@@ -141,8 +139,21 @@ impl Sheet<'_> {
         self.reads.count = 0;
         self.values.count = 0;
         self.shapes.count = 0;
-        let made = Record { tag: 0, p: 0, q: 0, r: 0, s: 0, t: 0 };
-        self.nodes.rows[0] = NodeRow { made, parent: NONE, first: NONE, last: NONE, next: NONE };
+        let made = Record {
+            tag: 0,
+            p: 0,
+            q: 0,
+            r: 0,
+            s: 0,
+            t: 0,
+        };
+        self.nodes.rows[0] = NodeRow {
+            made,
+            parent: NONE,
+            first: NONE,
+            last: NONE,
+            next: NONE,
+        };
         self.nodes.count = 1;
         self.innermost = 0;
     }

@@ -10,12 +10,10 @@ ghost use Rattle.sheet.specs.Links.{row};
 ghost use Rattle.sheet.specs.Tables.{items, stored};
 ghost use Rattle.sheet.specs.Planted.{Planted};
 ghost use Rattle.sheet.specs.Appended.{attached, appended};
-
-use block::Record;
-use screen::NONE;
-
 use crate::rows::NodeRow;
 use crate::table::Table;
+use block::Record;
+use screen::NONE;
 
 /// Puts the siblings from `first` to `last` after the last child of a node.
 pub(crate) fn attach(nodes: &mut [NodeRow], parent: u32, first: u32, last: u32)
@@ -25,10 +23,17 @@ pub(crate) fn attach(nodes: &mut [NodeRow], parent: u32, first: u32, last: u32)
 {
     let holder = nodes[parent as usize];
     if holder.last == NONE {
-        nodes[parent as usize] = NodeRow { first, last, ..holder };
+        nodes[parent as usize] = NodeRow {
+            first,
+            last,
+            ..holder
+        };
     } else {
         let before = nodes[holder.last as usize];
-        nodes[holder.last as usize] = NodeRow { next: first, ..before };
+        nodes[holder.last as usize] = NodeRow {
+            next: first,
+            ..before
+        };
         nodes[parent as usize] = NodeRow { last, ..holder };
     }
 }
@@ -45,7 +50,13 @@ pub(crate) fn append(nodes: &mut Table<'_, NodeRow>, parent: u32, made: Record)
     ensures long { λ _. ⌜ length (now (now (nodes .exit) .rows)) ≡ length (now (now (nodes .entry) .rows)) ⌝ }
 {
     let n = nodes.count;
-    nodes.push(NodeRow { made, parent, first: NONE, last: NONE, next: NONE });
+    nodes.push(NodeRow {
+        made,
+        parent,
+        first: NONE,
+        last: NONE,
+        next: NONE,
+    });
     attach(nodes.rows, parent, n, n);
 }
 

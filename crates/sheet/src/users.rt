@@ -11,16 +11,14 @@ ghost use Rattle.screen.specs.Refused.{inUse, nodeUsed, used};
 ghost use Rattle.sheet.specs.Tables.{items, memory};
 ghost use Rattle.sheet.specs.Planted.{nodesOf, statusesOf};
 ghost use Rattle.sheet.specs.Holds.{rowsOf, Within};
-
+use crate::rows::NodeRow;
+use crate::rows::ScopeRow;
+use crate::sheet::Sheet;
 use screen::Entry;
 use screen::Node;
 use screen::Status;
 use screen::Value;
 use screen::ValueRow;
-
-use crate::rows::NodeRow;
-use crate::rows::ScopeRow;
-use crate::sheet::Sheet;
 
 /// Whether k is among these rows, of which some are none.
 fn among(names: &[Option<u32>], k: u32) -> bool

@@ -1,15 +1,14 @@
 //! Text from standard input to blocks on standard output. Nothing is written where a line is not understood.
 
+use encode::fill_blocks;
 use std::alloc::Global;
 use std::io;
 use std::io::Read;
 use std::io::Write;
-
-use encode::fill_blocks;
-use text::read_text;
 use text::TextError;
 use text::TextErrorDisplay;
 use text::TextErrorFromRefusal;
+use text::read_text;
 
 /// The program failed, and has said why.
 #[derive(Debug, Drop)]

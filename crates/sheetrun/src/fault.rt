@@ -54,7 +54,10 @@ pub impl fmt::Display for Fault as FaultDisplay {
     fn fmt<W: fmt::Write>(&self, f: &mut fmt::Formatter<W>) -> fmt::Result {
         match self {
             Fault::Block(bad) => write!(f, "{bad}"),
-            Fault::Io(error) => write!(f, "the input cannot be read, or the output not written: {error}"),
+            Fault::Io(error) => write!(
+                f,
+                "the input cannot be read, or the output not written: {error}"
+            ),
             Fault::Memory => write!(f, "there is no memory for the tables"),
             Fault::Tables(_) => write!(f, "the tables are too short"),
         }

@@ -5,7 +5,12 @@ ghost use lib.ListN.{length};
 ghost use Rattle.std.specs.Results.{Cases};
 ghost use Rattle.sheet.specs.Tables.{memory as held, workMemory};
 ghost use Rattle.sheet.specs.Kept.{Ready};
-
+use crate::fault::BadBlock;
+use crate::fault::Fault;
+use crate::fault::FaultFromAlloc;
+use crate::fault::FaultFromBadBlock;
+use crate::fault::FaultFromIo;
+use crate::memory::Memory;
 use block::Checked;
 use block::Cursor;
 use block::Unchecked;
@@ -16,13 +21,6 @@ use sheet::Sheet;
 use sheet::Work;
 use std::io;
 use std::io::Read;
-
-use crate::fault::BadBlock;
-use crate::fault::Fault;
-use crate::fault::FaultFromAlloc;
-use crate::fault::FaultFromBadBlock;
-use crate::fault::FaultFromIo;
-use crate::memory::Memory;
 
 /// Runs the blocks of standard input on a new sheet.
 pub fn run(rt: &LibcRuntime) -> Result<(), Fault> {
@@ -87,7 +85,13 @@ fn run_blocks(rt: &LibcRuntime, sheet: &mut Sheet<'_>, work: &mut Work<'_>) -> R
 }
 
 /// Runs the records of a block.
-fn run_records(rt: &LibcRuntime, sheet: &mut Sheet<'_>, work: &mut Work<'_>, block: u64, records: &mut Cursor<'_>) -> io::Result<()>
+fn run_records(
+    rt: &LibcRuntime,
+    sheet: &mut Sheet<'_>,
+    work: &mut Work<'_>,
+    block: u64,
+    records: &mut Cursor<'_>,
+) -> io::Result<()>
     requires { ⌜ Ready (held (now sheet)) (workMemory (now work)) ⌝ }
     ensures { λ _. ⌜ Ready (held (now (sheet .exit))) (workMemory (now (work .exit))) ⌝ }
 {
@@ -102,7 +106,13 @@ fn run_records(rt: &LibcRuntime, sheet: &mut Sheet<'_>, work: &mut Work<'_>, blo
 }
 
 /// Prints what came of a record: a list, a refusal, or nothing where it was just taken.
-fn report(rt: &LibcRuntime, work: &Work<'_>, answer: Result<Answer, Refusal>, block: u64, at: u16) -> io::Result<()> {
+fn report(
+    rt: &LibcRuntime,
+    work: &Work<'_>,
+    answer: Result<Answer, Refusal>,
+    block: u64,
+    at: u16,
+) -> io::Result<()> {
     match answer {
         Ok(Answer::Accepted) => Ok(()),
         Ok(Answer::Listed(n)) => print_lines(rt, work.lines, n),

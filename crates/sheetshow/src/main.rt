@@ -1,10 +1,9 @@
 //! Blocks from standard input to text on standard output. A block that is not good is named in a comment, and the program fails.
 
+use encode::Page;
 use std::alloc::Global;
 use std::io;
 use std::io::Read;
-
-use encode::Page;
 use text::Listing;
 use text::ListingDisplay;
 

@@ -7,11 +7,11 @@ mod read;
 mod show;
 mod words;
 
-pub use lines::read_text;
 pub use lines::TextError;
 pub use lines::TextErrorDebug;
 pub use lines::TextErrorDisplay;
 pub use lines::TextErrorFromRefusal;
+pub use lines::read_text;
 pub use listing::Listing;
 pub use listing::ListingDisplay;
 pub use read::read_line;

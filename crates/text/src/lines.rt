@@ -1,16 +1,15 @@
 //! A whole text: its lines read to records.
 
-use std::alloc::AllocError;
-use std::alloc::Global;
-use std::alloc::Refused;
-use std::fmt;
-
-use encode::Refusal;
 use crate::read::read_line;
 use crate::words::Complaint;
 use crate::words::ComplaintDebug;
 use crate::words::ComplaintDisplay;
 use crate::words::ComplaintPartialEq;
+use encode::Refusal;
+use std::alloc::AllocError;
+use std::alloc::Global;
+use std::alloc::Refused;
+use std::fmt;
 
 /// Why a text has no blocks.
 #[derive(Clone, Copy, Debug, PartialEq, Eq)]
@@ -49,7 +48,9 @@ pub impl fmt::Display for TextError<'_> as TextErrorDisplay {
         match self {
             TextError::Line(number, complaint) => write!(f, "line {number}: {complaint}"),
             TextError::Memory => f.write_str("there is not enough memory"),
-            TextError::TooMany => f.write_str("there are more records than blocks can be numbered for"),
+            TextError::TooMany => f.write_str(
+                "there are more records than blocks can be numbered for",
+            ),
         }
     }
 }

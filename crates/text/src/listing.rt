@@ -1,12 +1,10 @@
 //! A block of a file as the lines of text that are shown for it.
 
-use std::fmt;
-
-use block::Fault;
-use encode::Page;
-
 use crate::show::Line;
 use crate::show::LineDisplay;
+use block::Fault;
+use encode::Page;
+use std::fmt;
 
 /// The lines of a block: a comment, and its records where it is good.
 #[derive(Clone, Copy)]
@@ -16,7 +14,11 @@ pub impl fmt::Display for Listing<'_> as ListingDisplay {
     fn fmt<W: fmt::Write>(&self, f: &mut fmt::Formatter<W>) -> fmt::Result {
         match self.0 {
             Page::Good { place, records } => show_records(*place, records.as_slice(), f),
-            Page::Bad { place, fault } => writeln!(f, "# block {place} is not good: {}", fault_text(*fault)),
+            Page::Bad { place, fault } => writeln!(
+                f,
+                "# block {place} is not good: {}",
+                fault_text(*fault)
+            ),
             Page::End => Ok(()),
         }
     }
@@ -33,7 +35,11 @@ fn fault_text(fault: Fault) -> &'static str {
 }
 
 /// A comment with the block's number and how many records it has, and a line for each of them.
-fn show_records<W: fmt::Write>(place: u64, records: &[[u8; 16]], f: &mut fmt::Formatter<W>) -> fmt::Result {
+fn show_records<W: fmt::Write>(
+    place: u64,
+    records: &[[u8; 16]],
+    f: &mut fmt::Formatter<W>,
+) -> fmt::Result {
     let count = records.len();
     let noun = if count == 1 { "record" } else { "records" };
     writeln!(f, "# block {place}, {count} {noun}")?;

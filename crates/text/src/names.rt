@@ -5,7 +5,16 @@ ghost use lib.ListN.{length};
 ghost use Rattle.std.specs.Options.{Cases};
 
 /// The kinds of types, by p of a type.
-pub const TYPES: [&str; 8] = ["primitive", "function", "object", "var", "poly", "phi", "property", "objectMethod"];
+pub const TYPES: [&str; 8] = [
+    "primitive",
+    "function",
+    "object",
+    "var",
+    "poly",
+    "phi",
+    "property",
+    "objectMethod",
+];
 
 /// The kinds of path entries, by q of a path entry.
 pub const PATHS: [&str; 2] = ["name", "number"];
@@ -36,7 +45,19 @@ pub const NODES: [&str; 4] = ["terminal", "arm", "scope", "pruned"];
 
 /// The kinds of terminals, by q of an Open.
 pub const TERMINALS: [&str; 13] = [
-    "break", "continue", "return", "throw", "switch", "doWhile", "while", "for", "forOf", "forIn", "if", "label", "try",
+    "break",
+    "continue",
+    "return",
+    "throw",
+    "switch",
+    "doWhile",
+    "while",
+    "for",
+    "forOf",
+    "forIn",
+    "if",
+    "label",
+    "try",
 ];
 
 /// The rules of Merge, by its p.

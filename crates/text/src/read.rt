@@ -2,10 +2,6 @@
 
 ghost use Prim.Native.Nat.{_<_};
 ghost use Rattle.std.specs.Options.{Cases};
-
-use block::Record;
-
-use encode::join;
 use crate::names::NODES;
 use crate::names::PATHS;
 use crate::names::RULES;
@@ -16,10 +12,19 @@ use crate::show::NONE;
 use crate::words::Complaint;
 use crate::words::Expected;
 use crate::words::Words;
+use block::Record;
+use encode::join;
 
 /// A record of this tag with no field.
 fn blank(tag: u8) -> Record {
-    Record { tag, p: 0, q: 0, r: 0, s: 0, t: 0 }
+    Record {
+        tag,
+        p: 0,
+        q: 0,
+        r: 0,
+        s: 0,
+        t: 0,
+    }
 }
 
 /// The sixteen bytes of a line's record, or none where the line has no word.
@@ -28,7 +33,11 @@ pub fn read_line(line: &str) -> Result<Option<[u8; 16]>, Complaint<'_>> {
     let Some(first) = words.next() else {
         return Ok(None);
     };
-    let bytes = if first == "raw" { read_raw(&mut words)? } else { join(read_record(first, &mut words)?) };
+    let bytes = if first == "raw" {
+        read_raw(&mut words)?
+    } else {
+        join(read_record(first, &mut words)?)
+    };
     words.end()?;
     Ok(Some(bytes))
 }
@@ -53,17 +62,37 @@ fn read_record<'a>(first: &'a str, words: &mut Words<'a>) -> Result<Record, Comp
 fn read_numbers<'a>(first: &'a str, words: &mut Words<'a>) -> Result<Record, Complaint<'a>> {
     match first {
         "identifier" => read_pair(2, "type", words),
-        "scope" => Ok(Record { r: words.number()?, s: words.number()?, ..blank(4) }),
+        "scope" => Ok(Record {
+            r: words.number()?,
+            s: words.number()?,
+            ..blank(4)
+        }),
         "declare" => read_pair(6, "as", words),
-        "reassign" => Ok(Record { r: words.number()?, ..blank(7) }),
-        "read" => Ok(Record { r: words.number()?, ..blank(8) }),
-        "shape" => Ok(Record { r: words.number()?, ..blank(15) }),
-        _ => Err(Complaint { found: Some(first), expected: Expected::Record }),
+        "reassign" => Ok(Record {
+            r: words.number()?,
+            ..blank(7)
+        }),
+        "read" => Ok(Record {
+            r: words.number()?,
+            ..blank(8)
+        }),
+        "shape" => Ok(Record {
+            r: words.number()?,
+            ..blank(15)
+        }),
+        _ => Err(Complaint {
+            found: Some(first),
+            expected: Expected::Record,
+        }),
     }
 }
 
 /// Two numbers with a word between them.
-fn read_pair<'a>(tag: u8, between: &'static str, words: &mut Words<'a>) -> Result<Record, Complaint<'a>> {
+fn read_pair<'a>(
+    tag: u8,
+    between: &'static str,
+    words: &mut Words<'a>,
+) -> Result<Record, Complaint<'a>> {
     let r = words.number()?;
     words.word(between)?;
     let s = words.number()?;
@@ -81,11 +110,20 @@ fn read_path<'a>(words: &mut Words<'a>) -> Result<Record, Complaint<'a>> {
     let r = words.number()?;
     let s = words.number()?;
     let p = u8::from(words.goes_on("optional")?);
-    Ok(Record { p, q, r, s, ..blank(3) })
+    Ok(Record {
+        p,
+        q,
+        r,
+        s,
+        ..blank(3)
+    })
 }
 
 fn read_dependency<'a>(words: &mut Words<'a>) -> Result<Record, Complaint<'a>> {
-    let mut x = Record { r: words.number()?, ..blank(5) };
+    let mut x = Record {
+        r: words.number()?,
+        ..blank(5)
+    };
     if words.goes_on("path")? {
         x.q = words.short_number()?;
         words.word("from")?;
@@ -99,11 +137,29 @@ fn read_value<'a>(words: &mut Words<'a>) -> Result<Record, Complaint<'a>> {
     let x = Record { p, ..blank(9) };
     match p {
         0..=9 => read_reads(Record { s: NONE, ..x }, words),
-        10 | 11 => read_reads(Record { s: words.number()?, ..x }, words),
-        12 => Ok(Record { r: words.number()?, s: words.number()?, ..x }),
-        13 => Ok(Record { r: words.number()?, s: words.number()?, t: words.number()?, ..x }),
+        10 | 11 => read_reads(
+            Record {
+                s: words.number()?,
+                ..x
+            },
+            words,
+        ),
+        12 => Ok(Record {
+            r: words.number()?,
+            s: words.number()?,
+            ..x
+        }),
+        13 => Ok(Record {
+            r: words.number()?,
+            s: words.number()?,
+            t: words.number()?,
+            ..x
+        }),
         14 => read_inside(x, "inner", words),
-        15 => Ok(Record { r: words.number()?, ..x }),
+        15 => Ok(Record {
+            r: words.number()?,
+            ..x
+        }),
         _ => read_inside(x, "next", words),
     }
 }
@@ -112,18 +168,33 @@ fn read_value<'a>(words: &mut Words<'a>) -> Result<Record, Complaint<'a>> {
 fn read_reads<'a>(x: Record, words: &mut Words<'a>) -> Result<Record, Complaint<'a>> {
     match words.next() {
         None => Ok(x),
-        Some("read") => Ok(Record { q: 1, r: words.number()?, ..x }),
+        Some("read") => Ok(Record {
+            q: 1,
+            r: words.number()?,
+            ..x
+        }),
         Some("reads") => {
             let q = words.short_number()?;
             words.word("from")?;
-            Ok(Record { q, r: words.number()?, ..x })
+            Ok(Record {
+                q,
+                r: words.number()?,
+                ..x
+            })
         }
-        found => Err(Complaint { found, expected: Expected::Reads }),
+        found => Err(Complaint {
+            found,
+            expected: Expected::Reads,
+        }),
     }
 }
 
 /// A sequence or an inner instruction, and the inner instruction that comes next.
-fn read_inside<'a>(x: Record, next: &'static str, words: &mut Words<'a>) -> Result<Record, Complaint<'a>> {
+fn read_inside<'a>(
+    x: Record,
+    next: &'static str,
+    words: &mut Words<'a>,
+) -> Result<Record, Complaint<'a>> {
     words.word("order")?;
     let r = words.number()?;
     words.word("value")?;
@@ -134,12 +205,19 @@ fn read_inside<'a>(x: Record, next: &'static str, words: &mut Words<'a>) -> Resu
 
 /// This word and the row after it, or none where the line ends.
 fn read_row<'a>(word: &'static str, words: &mut Words<'a>) -> Result<u32, Complaint<'a>> {
-    if words.goes_on(word)? { words.number() } else { Ok(NONE) }
+    if words.goes_on(word)? {
+        words.number()
+    } else {
+        Ok(NONE)
+    }
 }
 
 fn read_add<'a>(words: &mut Words<'a>) -> Result<Record, Complaint<'a>> {
     let x = read_pair(10, "value", words)?;
-    Ok(Record { t: read_row("target", words)?, ..x })
+    Ok(Record {
+        t: read_row("target", words)?,
+        ..x
+    })
 }
 
 fn read_open<'a>(words: &mut Words<'a>) -> Result<Record, Complaint<'a>> {
@@ -148,7 +226,10 @@ fn read_open<'a>(words: &mut Words<'a>) -> Result<Record, Complaint<'a>> {
     match p {
         0 => read_terminal(x, words),
         1 => Ok(x),
-        _ => Ok(Record { r: words.number()?, ..x }),
+        _ => Ok(Record {
+            r: words.number()?,
+            ..x
+        }),
     }
 }
 
@@ -167,7 +248,10 @@ fn read_merge<'a>(words: &mut Words<'a>) -> Result<Record, Complaint<'a>> {
 /// Sixteen bytes in hexadecimal digits.
 fn read_raw<'a>(words: &mut Words<'a>) -> Result<[u8; 16], Complaint<'a>> {
     let found = words.next();
-    let complaint = Complaint { found, expected: Expected::Hex };
+    let complaint = Complaint {
+        found,
+        expected: Expected::Hex,
+    };
     let Some(digits) = found else {
         return Err(complaint);
     };

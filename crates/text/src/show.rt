@@ -1,14 +1,12 @@
 //! A record as its line of text. Words stand for a record whose other fields are blank; any other record is raw.
 
-use std::fmt;
-
-use block::Record;
-
 use crate::names::NODES;
 use crate::names::RULES;
 use crate::names::TERMINALS;
 use crate::names::TYPES;
 use crate::names::VALUES;
+use block::Record;
+use std::fmt;
 
 /// No row.
 pub const NONE: u32 = 4294967295;
@@ -98,18 +96,30 @@ fn show_raw<W: fmt::Write>(bytes: [u8; 16], f: &mut fmt::Formatter<W>) -> fmt::R
 
 fn show_type<W: fmt::Write>(x: Record, f: &mut fmt::Formatter<W>) -> fmt::Result {
     write!(f, "type {}", name_at(&TYPES, x.p))?;
-    if x.r != 0 { write!(f, " {}", x.r) } else { Ok(()) }
+    if x.r != 0 {
+        write!(f, " {}", x.r)
+    } else {
+        Ok(())
+    }
 }
 
 fn show_path<W: fmt::Write>(x: Record, f: &mut fmt::Formatter<W>) -> fmt::Result {
     let kind = if x.q == 0 { "name" } else { "number" };
     write!(f, "path {kind} {} {}", x.r, x.s)?;
-    if x.p == 1 { f.write_str(" optional") } else { Ok(()) }
+    if x.p == 1 {
+        f.write_str(" optional")
+    } else {
+        Ok(())
+    }
 }
 
 fn show_dependency<W: fmt::Write>(x: Record, f: &mut fmt::Formatter<W>) -> fmt::Result {
     write!(f, "depend {}", x.r)?;
-    if x.q != 0 || x.s != 0 { write!(f, " path {} from {}", x.q, x.s) } else { Ok(()) }
+    if x.q != 0 || x.s != 0 {
+        write!(f, " path {} from {}", x.q, x.s)
+    } else {
+        Ok(())
+    }
 }
 
 fn show_value<W: fmt::Write>(x: Record, f: &mut fmt::Formatter<W>) -> fmt::Result {
@@ -140,12 +150,20 @@ fn show_reads<W: fmt::Write>(x: Record, f: &mut fmt::Formatter<W>) -> fmt::Resul
 /// A sequence or an inner instruction, and the inner instruction that comes next.
 fn show_inside<W: fmt::Write>(x: Record, next: &str, f: &mut fmt::Formatter<W>) -> fmt::Result {
     write!(f, " order {} value {}", x.r, x.s)?;
-    if x.t != NONE { write!(f, " {next} {}", x.t) } else { Ok(()) }
+    if x.t != NONE {
+        write!(f, " {next} {}", x.t)
+    } else {
+        Ok(())
+    }
 }
 
 fn show_add<W: fmt::Write>(x: Record, f: &mut fmt::Formatter<W>) -> fmt::Result {
     write!(f, "add {} value {}", x.r, x.s)?;
-    if x.t != NONE { write!(f, " target {}", x.t) } else { Ok(()) }
+    if x.t != NONE {
+        write!(f, " target {}", x.t)
+    } else {
+        Ok(())
+    }
 }
 
 fn show_open<W: fmt::Write>(x: Record, f: &mut fmt::Formatter<W>) -> fmt::Result {
@@ -160,5 +178,9 @@ fn show_open<W: fmt::Write>(x: Record, f: &mut fmt::Formatter<W>) -> fmt::Result
 fn show_terminal<W: fmt::Write>(x: Record, f: &mut fmt::Formatter<W>) -> fmt::Result {
     let kind = TERMINALS.get(x.q as usize).copied().unwrap_or("");
     write!(f, " {kind} {}", x.r)?;
-    if x.s != NONE { write!(f, " value {}", x.s) } else { Ok(()) }
+    if x.s != NONE {
+        write!(f, " value {}", x.s)
+    } else {
+        Ok(())
+    }
 }

@@ -3,11 +3,9 @@
 ghost use Prim.Native.Nat.{_<_};
 ghost use lib.ListN.{length};
 ghost use Rattle.std.specs.Results.{Cases};
-
+use crate::names::place_of;
 use std::fmt;
 use std::str::SplitWhitespace;
-
-use crate::names::place_of;
 
 /// What a line should have had next.
 #[derive(Clone, Copy, Debug, PartialEq, Eq)]
@@ -39,17 +37,25 @@ pub struct Complaint<'a> {
 pub impl fmt::Display for Expected as ExpectedDisplay {
     fn fmt<W: fmt::Write>(&self, f: &mut fmt::Formatter<W>) -> fmt::Result {
         match self {
-            Expected::Record => f.write_str("a record, as type, identifier, path, scope, depend, declare, reassign, read, value, add, open, close, merge, list, shape or raw"),
+            Expected::Record => f.write_str(
+                "a record, as type, identifier, path, scope, depend, declare, reassign, read, value, add, open, close, merge, list, shape or raw",
+            ),
             Expected::Word(word) => write!(f, "the word {word}"),
             Expected::WordOrEnd(word) => write!(f, "the word {word} or the end of the line"),
             Expected::End => f.write_str("the end of the line"),
             Expected::Number => f.write_str("a number from 0 to 4294967295"),
             Expected::ShortNumber => f.write_str("a number from 0 to 65535"),
-            Expected::TypeKind => f.write_str("primitive, function, object, var, poly, phi, property or objectMethod"),
+            Expected::TypeKind => f.write_str(
+                "primitive, function, object, var, poly, phi, property or objectMethod",
+            ),
             Expected::PathKind => f.write_str("name or number"),
-            Expected::ValueKind => f.write_str("a kind of value, as other, binary, computedLoad, jsxText, loadGlobal, loadLocal, primitive, propertyLoad, template, unary, storeConst, storeLocal, logical, conditional, sequence, optional or inner"),
+            Expected::ValueKind => f.write_str(
+                "a kind of value, as other, binary, computedLoad, jsxText, loadGlobal, loadLocal, primitive, propertyLoad, template, unary, storeConst, storeLocal, logical, conditional, sequence, optional or inner",
+            ),
             Expected::Node => f.write_str("terminal, arm, scope or pruned"),
-            Expected::TerminalKind => f.write_str("break, continue, return, throw, switch, doWhile, while, for, forOf, forIn, if, label or try"),
+            Expected::TerminalKind => f.write_str(
+                "break, continue, return, throw, switch, doWhile, while, for, forOf, forIn, if, label or try",
+            ),
             Expected::Rule => f.write_str("list or both"),
             Expected::Reads => f.write_str("the word read, the word reads or the end of the line"),
             Expected::Hex => f.write_str("32 hexadecimal digits"),
@@ -80,7 +86,9 @@ impl<'a> Words<'a> {
             Some((before, _)) => before,
             None => line,
         };
-        Words { rest: text.split_whitespace() }
+        Words {
+            rest: text.split_whitespace(),
+        }
     }
 
     /// The next word, or none at the line's end.
@@ -92,7 +100,10 @@ impl<'a> Words<'a> {
     fn some(&mut self, expected: Expected) -> Result<&'a str, Complaint<'a>> {
         match self.next() {
             Some(word) => Ok(word),
-            None => Err(Complaint { found: None, expected }),
+            None => Err(Complaint {
+                found: None,
+                expected,
+            }),
         }
     }
 
@@ -100,7 +111,14 @@ impl<'a> Words<'a> {
     pub fn word(&mut self, word: &'static str) -> Result<(), Complaint<'a>> {
         let expected = Expected::Word(word);
         let found = self.some(expected)?;
-        if found == word { Ok(()) } else { Err(Complaint { found: Some(found), expected }) }
+        if found == word {
+            Ok(())
+        } else {
+            Err(Complaint {
+                found: Some(found),
+                expected,
+            })
+        }
     }
 
     /// Whether this word comes next; if not, the line ends here.
@@ -108,7 +126,10 @@ impl<'a> Words<'a> {
         match self.next() {
             None => Ok(false),
             Some(found) if found == word => Ok(true),
-            Some(found) => Err(Complaint { found: Some(found), expected: Expected::WordOrEnd(word) }),
+            Some(found) => Err(Complaint {
+                found: Some(found),
+                expected: Expected::WordOrEnd(word),
+            }),
         }
     }
 
@@ -116,7 +137,10 @@ impl<'a> Words<'a> {
     pub fn end(&mut self) -> Result<(), Complaint<'a>> {
         match self.next() {
             None => Ok(()),
-            found => Err(Complaint { found, expected: Expected::End }),
+            found => Err(Complaint {
+                found,
+                expected: Expected::End,
+            }),
         }
     }
 
@@ -125,7 +149,10 @@ impl<'a> Words<'a> {
         let found = self.some(Expected::Number)?;
         match found.parse::<u32>() {
             Ok(number) => Ok(number),
-            Err(_) => Err(Complaint { found: Some(found), expected: Expected::Number }),
+            Err(_) => Err(Complaint {
+                found: Some(found),
+                expected: Expected::Number,
+            }),
         }
     }
 
@@ -135,7 +162,10 @@ impl<'a> Words<'a> {
             None => Ok(None),
             Some(found) => match found.parse::<u32>() {
                 Ok(number) => Ok(Some(number)),
-                Err(_) => Err(Complaint { found: Some(found), expected: Expected::Number }),
+                Err(_) => Err(Complaint {
+                    found: Some(found),
+                    expected: Expected::Number,
+                }),
             },
         }
     }
@@ -145,7 +175,10 @@ impl<'a> Words<'a> {
         let found = self.some(Expected::ShortNumber)?;
         match found.parse::<u16>() {
             Ok(number) => Ok(number),
-            Err(_) => Err(Complaint { found: Some(found), expected: Expected::ShortNumber }),
+            Err(_) => Err(Complaint {
+                found: Some(found),
+                expected: Expected::ShortNumber,
+            }),
         }
     }
 
@@ -156,7 +189,10 @@ impl<'a> Words<'a> {
         let found = self.some(expected)?;
         match place_of(names, found) {
             Some(place) => Ok(place),
-            None => Err(Complaint { found: Some(found), expected }),
+            None => Err(Complaint {
+                found: Some(found),
+                expected,
+            }),
         }
     }
 }

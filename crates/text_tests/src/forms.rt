@@ -1,14 +1,13 @@
 //! Every form of a record, as the text that is written for it and the bytes that it stands for.
 
-use std::alloc::Global;
-use std::test::*;
-
 use block::Record;
 use encode::join;
-use text::read_line;
+use std::alloc::Global;
+use std::test::*;
 use text::ComplaintDebug;
 use text::Line;
 use text::LineDisplay;
+use text::read_line;
 
 /// No row.
 const NONE: u32 = 4294967295;
@@ -63,10 +62,31 @@ fn other_values(rt: LibcRuntime) -> Result<(), Fail> {
     let heap = rt.alloc();
     both_ways(heap, "value logical 1 2", 9, 12, 0, [1, 2, 0])?;
     both_ways(heap, "value conditional 1 2 3", 9, 13, 0, [1, 2, 3])?;
-    both_ways(heap, "value sequence order 4 value 2 inner 7", 9, 14, 0, [4, 2, 7])?;
-    both_ways(heap, "value sequence order 4 value 2", 9, 14, 0, [4, 2, NONE])?;
+    both_ways(
+        heap,
+        "value sequence order 4 value 2 inner 7",
+        9,
+        14,
+        0,
+        [4, 2, 7],
+    )?;
+    both_ways(
+        heap,
+        "value sequence order 4 value 2",
+        9,
+        14,
+        0,
+        [4, 2, NONE],
+    )?;
     both_ways(heap, "value optional 3", 9, 15, 0, [3, 0, 0])?;
-    both_ways(heap, "value inner order 4 value 2 next 8", 9, 16, 0, [4, 2, 8])
+    both_ways(
+        heap,
+        "value inner order 4 value 2 next 8",
+        9,
+        16,
+        0,
+        [4, 2, 8],
+    )
 }
 
 #[test]
@@ -94,10 +114,52 @@ fn asks(rt: LibcRuntime) -> Result<(), Fail> {
 #[test]
 fn raw_where_no_words_fit(rt: LibcRuntime) -> Result<(), Fail> {
     let heap = rt.alloc();
-    both_ways(heap, "raw 00000000000000000000000000000000", 0, 0, 0, [0, 0, 0])?;
-    both_ways(heap, "raw 01080000000000000000000000000000", 1, 8, 0, [0, 0, 0])?;
-    both_ways(heap, "raw 08000000030000000100000000000000", 8, 0, 0, [3, 1, 0])?;
-    both_ways(heap, "raw 09000000000000000000000000000000", 9, 0, 0, [0, 0, 0])?;
-    both_ways(heap, "raw 0b000d00000000000000000000000000", 11, 0, 13, [0, 0, 0])?;
-    both_ways(heap, "raw ff01020304050607ffffffff0a0b0c0d", 255, 1, 770, [117835012, NONE, 218893066])
+    both_ways(
+        heap,
+        "raw 00000000000000000000000000000000",
+        0,
+        0,
+        0,
+        [0, 0, 0],
+    )?;
+    both_ways(
+        heap,
+        "raw 01080000000000000000000000000000",
+        1,
+        8,
+        0,
+        [0, 0, 0],
+    )?;
+    both_ways(
+        heap,
+        "raw 08000000030000000100000000000000",
+        8,
+        0,
+        0,
+        [3, 1, 0],
+    )?;
+    both_ways(
+        heap,
+        "raw 09000000000000000000000000000000",
+        9,
+        0,
+        0,
+        [0, 0, 0],
+    )?;
+    both_ways(
+        heap,
+        "raw 0b000d00000000000000000000000000",
+        11,
+        0,
+        13,
+        [0, 0, 0],
+    )?;
+    both_ways(
+        heap,
+        "raw ff01020304050607ffffffff0a0b0c0d",
+        255,
+        1,
+        770,
+        [117835012, NONE, 218893066],
+    )
 }

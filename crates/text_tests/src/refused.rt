@@ -2,10 +2,9 @@
 
 use std::alloc::Global;
 use std::test::*;
-
-use text::read_line;
 use text::ComplaintDebug;
 use text::ComplaintDisplay;
+use text::read_line;
 
 /// A line is refused with these words.
 fn refused(heap: Global, line: &str, words: &str) -> Result<(), Fail> {
@@ -19,16 +18,56 @@ fn refused(heap: Global, line: &str, words: &str) -> Result<(), Fail> {
 #[test]
 fn words_that_are_not_expected(rt: LibcRuntime) -> Result<(), Fail> {
     let heap = rt.alloc();
-    refused(heap, "scope 3 x", "x is not understood, expected a number from 0 to 4294967295")?;
-    refused(heap, "scope 3", "the line ends too early, expected a number from 0 to 4294967295")?;
-    refused(heap, "scope 3 5 7", "7 is not understood, expected the end of the line")?;
-    refused(heap, "read 4294967296", "4294967296 is not understood, expected a number from 0 to 4294967295")?;
-    refused(heap, "identifier 7 typ 2", "typ is not understood, expected the word type")?;
-    refused(heap, "add 1 value 2 to 3", "to is not understood, expected the word target or the end of the line")?;
-    refused(heap, "depend 0 path 70000 from 1", "70000 is not understood, expected a number from 0 to 65535")?;
-    refused(heap, "open door", "door is not understood, expected terminal, arm, scope or pruned")?;
-    refused(heap, "raw 12", "12 is not understood, expected 32 hexadecimal digits")?;
-    refused(heap, "raw 0000000000000000000000000000000g", "0000000000000000000000000000000g is not understood, expected 32 hexadecimal digits")
+    refused(
+        heap,
+        "scope 3 x",
+        "x is not understood, expected a number from 0 to 4294967295",
+    )?;
+    refused(
+        heap,
+        "scope 3",
+        "the line ends too early, expected a number from 0 to 4294967295",
+    )?;
+    refused(
+        heap,
+        "scope 3 5 7",
+        "7 is not understood, expected the end of the line",
+    )?;
+    refused(
+        heap,
+        "read 4294967296",
+        "4294967296 is not understood, expected a number from 0 to 4294967295",
+    )?;
+    refused(
+        heap,
+        "identifier 7 typ 2",
+        "typ is not understood, expected the word type",
+    )?;
+    refused(
+        heap,
+        "add 1 value 2 to 3",
+        "to is not understood, expected the word target or the end of the line",
+    )?;
+    refused(
+        heap,
+        "depend 0 path 70000 from 1",
+        "70000 is not understood, expected a number from 0 to 65535",
+    )?;
+    refused(
+        heap,
+        "open door",
+        "door is not understood, expected terminal, arm, scope or pruned",
+    )?;
+    refused(
+        heap,
+        "raw 12",
+        "12 is not understood, expected 32 hexadecimal digits",
+    )?;
+    refused(
+        heap,
+        "raw 0000000000000000000000000000000g",
+        "0000000000000000000000000000000g is not understood, expected 32 hexadecimal digits",
+    )
 }
 
 #[test]

@@ -1,20 +1,19 @@
 //! Whole texts and the blocks of a file.
 
-use std::alloc::Global;
-use std::test::*;
-
 use block::Unchecked;
+use encode::Page;
+use encode::RefusalDebug;
 use encode::fill_block;
 use encode::fill_blocks;
 use encode::records_of;
 use encode::round_trip;
-use encode::Page;
-use encode::RefusalDebug;
-use text::read_text;
+use std::alloc::Global;
+use std::test::*;
 use text::Listing;
 use text::ListingDisplay;
 use text::TextErrorDebug;
 use text::TextErrorDisplay;
+use text::read_text;
 
 /// So many Close records.
 fn closes(heap: Global, count: usize) -> Result<Vec<[u8; 16]>, Fail> {

@@ -16,7 +16,11 @@ ghost use Rattle.std.specs.Orderings.{Decides};
 ghost use Rattle.sheet.specs.Holds.{rowsOf, Within};
 ghost use Rattle.sheet.specs.Links.{noRecord};
 ghost use Rattle.sheet.specs.NodeRows.{nodeRowKept, NodesKept};
-
+use crate::named::node_named;
+use crate::named::value_named;
+use crate::rows::NodeRow;
+use crate::rows::ScopeRow;
+use crate::sheet::Sheet;
 use block::Record;
 use screen::Entry;
 use screen::IdentifierRow;
@@ -25,12 +29,6 @@ use screen::Row;
 use screen::Value;
 use screen::ValuePut;
 use screen::ValueRow;
-
-use crate::named::node_named;
-use crate::named::value_named;
-use crate::rows::NodeRow;
-use crate::rows::ScopeRow;
-use crate::sheet::Sheet;
 
 /// Whether a record's fields keep their list.
 pub(crate) fn is_listed(record: Record) -> bool
@@ -67,14 +65,23 @@ pub(crate) fn rows_kept<R: Row>(s: &Sheet<'_>, rows: &[R]) -> bool
 }
 
 /// Whether a value's fields keep their list, and what it names is put; its children among the values before it.
-fn value_kept(identifiers: &[IdentifierRow], reads: &[ReadRow], before: &[ValueRow], row: ValueRow) -> bool
+fn value_kept(
+    identifiers: &[IdentifierRow],
+    reads: &[ReadRow],
+    before: &[ValueRow],
+    row: ValueRow,
+) -> bool
     ensures { λ r. ⌜ r ≡ valueKept (now (identifiers .entry)) (now (reads .entry)) (now (before .entry)) row ⌝ }
 {
     is_listed(row.record()) && value_named(identifiers, reads, before, Value::of(row))
 }
 
 /// The same of each value.
-pub(crate) fn values_kept(identifiers: &[IdentifierRow], reads: &[ReadRow], values: &[ValueRow]) -> bool
+pub(crate) fn values_kept(
+    identifiers: &[IdentifierRow],
+    reads: &[ReadRow],
+    values: &[ValueRow],
+) -> bool
     ensures { λ r. ⌜ r ≡ valuesKept (now (identifiers .entry)) (now (reads .entry)) [] (now (values .entry)) ⌝ }
 {
     for i in 0..values.len() {
@@ -86,7 +93,12 @@ pub(crate) fn values_kept(identifiers: &[IdentifierRow], reads: &[ReadRow], valu
 }
 
 /// Whether a node's record made a node that names rows that are put.
-fn node_kept(identifiers: &[IdentifierRow], values: &[ValueRow], scopes: &[ScopeRow], row: NodeRow) -> bool
+fn node_kept(
+    identifiers: &[IdentifierRow],
+    values: &[ValueRow],
+    scopes: &[ScopeRow],
+    row: NodeRow,
+) -> bool
     ensures { λ r. ⌜ r ≡ nodeRowKept (now (identifiers .entry)) (now (values .entry)) (statusesOf (now (scopes .entry))) row ⌝ }
 {
     let Some(entry) = Entry::of(row.made) else {
@@ -102,11 +114,21 @@ fn node_kept(identifiers: &[IdentifierRow], values: &[ValueRow], scopes: &[Scope
 fn is_blank(record: Record) -> bool
     ensures { λ r. ⌜ Decides r («record» ≡ noRecord) ⌝ }
 {
-    record.tag == 0 && record.p == 0 && record.q == 0 && record.r == 0 && record.s == 0 && record.t == 0
+    record.tag == 0
+        && record.p == 0
+        && record.q == 0
+        && record.r == 0
+        && record.s == 0
+        && record.t == 0
 }
 
 /// Whether the body's record is all zeros, and every other node is as it should be by itself.
-pub(crate) fn nodes_kept(identifiers: &[IdentifierRow], values: &[ValueRow], scopes: &[ScopeRow], nodes: &[NodeRow]) -> bool
+pub(crate) fn nodes_kept(
+    identifiers: &[IdentifierRow],
+    values: &[ValueRow],
+    scopes: &[ScopeRow],
+    nodes: &[NodeRow],
+) -> bool
     ensures { λ r. ⌜ Decides r (NodesKept (now (identifiers .entry)) (now (values .entry)) (statusesOf (now (scopes .entry))) (now (nodes .entry))) ⌝ }
 {
     if nodes.is_empty() || !is_blank(nodes[0].made) {

@@ -167,7 +167,11 @@ fn begins_rise(scopes: &[ScopeRow], dependencies: u32) -> bool
 }
 
 /// Whether the Scope rows and the lists linked through them and the declarations are as they should be.
-pub(crate) fn scopes_sound(scopes: &[ScopeRow], declarations: &[DeclarationRow], dependencies: u32) -> bool
+pub(crate) fn scopes_sound(
+    scopes: &[ScopeRow],
+    declarations: &[DeclarationRow],
+    dependencies: u32,
+) -> bool
     requires few { ⌜ (length (now scopes) ≤ 256) × (length (now declarations) ≤ 1024) ⌝ }
     ensures yes { λ r. ⌜ (r ≡ true → (ss : List Scope) × Chained (now (scopes .entry)) (now (declarations .entry)) ss × ScopesKept ss dependencies (length (now (declarations .entry)))) ⌝ }
     ensures no { λ r. ⌜ ((ss : List Scope) → Chained (now (scopes .entry)) (now (declarations .entry)) ss → ScopesKept ss dependencies (length (now (declarations .entry))) → r ≡ true) ⌝ }

@@ -8,13 +8,11 @@ ghost use Rattle.screen.specs.Lists.{gathered, present};
 ghost use Rattle.screen.specs.Users.{namesOf, namesIn, namings};
 ghost use Rattle.sheet.specs.Planted.{nodesOf};
 ghost use Rattle.sheet.specs.Walks.{fresh, marked};
-
+use crate::rows::NodeRow;
+use crate::users::value_in;
 use screen::Node;
 use screen::Value;
 use screen::ValueRow;
-
-use crate::rows::NodeRow;
-use crate::users::value_in;
 
 /// Marks the values named here; false at one that is not below `limit` or has a mark.
 fn mark_names(names: &[Option<u32>], limit: usize, marks: &mut [bool]) -> bool

@@ -11,9 +11,10 @@ pub add-sum-in-loop-i : need.add-sum-in-loop-i
 add-sum-in-loop-i c = omega (arith, summand (c .loop-i .i) (getD (c .args .bytes .now) (c .loop-i .i) 0) (omega arith) (omega arith))
 
 pub loop-i-again : need.loop-i-again
-loop-i-again c =
-    (omega (arith, weighed-more (c .args .bytes .now) (c .loop-i .i) (omega arith)),
-     omega (arith, summand (c .loop-i .i) (getD (c .args .bytes .now) (c .loop-i .i) 0) (omega arith) (omega arith)))
+loop-i-again c = (
+  omega (arith, weighed-more (c .args .bytes .now) (c .loop-i .i) (omega arith)),
+  omega (arith, summand (c .loop-i .i) (getD (c .args .bytes .now) (c .loop-i .i) 0) (omega arith) (omega arith)),
+)
 
 pub returns : need.returns
 unfolding checkOf

@@ -20,11 +20,12 @@ loop-number-again c =
     let xs = c .args .records .now in
     let n = c .loop-number .number in
     let got : c .fill-block .last .bytes ≡ blockOf n (portion xs n) =
-      c .fill-block .ensures .exact ∙ ap (λ z. blockOf n (take 31 z)) (take-rest xs (31 * n)) in
+    c .fill-block .ensures .exact ∙ ap (λ z. blockOf n (take 31 z)) (take-rest xs (31 * n)) in
     let after : vec-items (c .extend-from-slice .last .self) ≡ blocksOf xs n ++ c .fill-block .last .bytes =
-      pushed (c .fill-block .last .bytes) (c .loop-number .inv .0) (c .in-Continue-extend-from-slice .was tt) (c .extend-from-slice .ensures .items) in
-    (after ∙ ap (λ z. blocksOf xs n ++ z) got ∙ ap (blocksOf xs) (let e : suc n ≡ n + 1 = omega arith in e),
-     below-more _ _ (c .loop-number .inv .1) (ap (λ b. faultOf b n) (sym got) ∙ c .fill-block .ensures .good))
+    pushed (c .fill-block .last .bytes) (c .loop-number .inv .0) (c .in-Continue-extend-from-slice .was tt) (c .extend-from-slice .ensures .items) in (
+      after ∙ ap (λ z. blocksOf xs n ++ z) got ∙ ap (blocksOf xs) (let e : suc n ≡ n + 1 = omega arith in e),
+      below-more _ _ (c .loop-number .inv .1) (ap (λ b. faultOf b n) (sym got) ∙ c .fill-block .ensures .good),
+    )
 
 pub returns : need.returns
 returns c =

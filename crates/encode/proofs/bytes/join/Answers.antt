@@ -10,5 +10,5 @@ returns c =
     let e = from-parts x _ _ _ _ (c .to-le-bytes .ensures) (c .to-le-bytes-2 .ensures) (c .to-le-bytes-3 .ensures) (c .to-le-bytes-4 .ensures) in
     record {
       split = ap fieldsOf e ∙ split-joined x (omega arith) (omega arith) (omega arith) (omega arith);
-      only = λ bytes long small fields. join-split bytes long small ∙ ap sixteen fields ∙ sym e
+      only = λ bytes long small fields. join-split bytes long small ∙ ap sixteen fields ∙ sym e;
     }

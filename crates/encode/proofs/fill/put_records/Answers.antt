@@ -34,5 +34,5 @@ returns c =
     record {
       taken = omega arith;
       exact = c .loop-i .inv ∙ ap (λ k. inRow (take k xs) ++ replicate (512 - 16 * k) 0) last
-        ∙ ap (λ r. inRow r ++ replicate (512 - 16 * n) 0) (ap (λ k. take k xs) (c .min-count .ensures) ∙ take-least 31 xs)
+          ∙ ap (λ r. inRow r ++ replicate (512 - 16 * n) 0) (ap (λ k. take k xs) (c .min-count .ensures) ∙ take-least 31 xs);
     }

@@ -21,7 +21,7 @@ returns-then-below-ge-MOST c =
     let i = c .loop-i .i in
     let start : i - 0 ≡ i = omega arith in
     let is : c .highest-below .result + 1 ≡ levelAfter (take i ls) (getD vs i noValue) =
-      omega (arith, c .highest-below .ensures ∙ ap (λ n. highest (take n ls) (present (c .children .result))) start ∙ ap (λ l. highest (take i ls) (present l)) (c .children .ensures ∙ ap childrenOf (c .of .ensures))) in
+    omega (arith, c .highest-below .ensures ∙ ap (λ n. highest (take n ls) (present (c .children .result))) start ∙ ap (λ l. highest (take i ls) (present l)) (c .children .ensures ∙ ap childrenOf (c .of .ensures))) in
     record { value = sym (ap (every (λ n. leb n 64)) (c .loop-i .inv .1) ∙ levels-too-deep vs (take i ls) i (c .loop-i-test .taken) (omega arith)); levels = λ e. absurd (clash e) }
 
 pub loop-i-again : need.loop-i-again
@@ -32,11 +32,12 @@ loop-i-again c =
     let x = c .highest-below .result + 1 in
     let start : i - 0 ≡ i = omega arith in
     let is : x ≡ levelAfter (take i ls) (getD vs i noValue) =
-      omega (arith, c .highest-below .ensures ∙ ap (λ n. highest (take n ls) (present (c .children .result))) start ∙ ap (λ l. highest (take i ls) (present l)) (c .children .ensures ∙ ap childrenOf (c .of .ensures))) in
-    let in′ : i < length ls = omega (arith, c .loop-i .inv .0) in
-    (length-set ls i x ∙ c .loop-i .inv .0,
-     c .loop-i .inv .1 ∙ levels-written vs ls i x (c .loop-i-test .taken) in′ is,
-     ap (every (λ n. leb n 64)) (take-more-set ls i x in′) ∙ every-push (λ n. leb n 64) (take i ls) x (c .loop-i .inv .2) (le-leb x 64 (omega arith)))
+    omega (arith, c .highest-below .ensures ∙ ap (λ n. highest (take n ls) (present (c .children .result))) start ∙ ap (λ l. highest (take i ls) (present l)) (c .children .ensures ∙ ap childrenOf (c .of .ensures))) in
+    let in′ : i < length ls = omega (arith, c .loop-i .inv .0) in (
+      length-set ls i x ∙ c .loop-i .inv .0,
+      c .loop-i .inv .1 ∙ levels-written vs ls i x (c .loop-i-test .taken) in′ is,
+      ap (every (λ n. leb n 64)) (take-more-set ls i x in′) ∙ every-push (λ n. leb n 64) (take i ls) x (c .loop-i .inv .2) (le-leb x 64 (omega arith)),
+    )
 
 pub returns : need.returns
 returns c =

@@ -13,9 +13,9 @@ loop-name-again c =
     let i = c .loop-name .name-index in
     let ls = c .args .levels .now in
     elim (c .match-name .came) [
-      in-Some·then-level-most w ↦ omega (arith, c .loop-name .inv, w .most-is, w .if-level-most .taken, w .level-at-level .ensures, ap (highest ls) (present-more os i _ (c .loop-name-test .taken) (w .in-Some .is)))
-    | in-Some·else-level-most w ↦ omega (arith, c .loop-name .inv, w .most-is, w .if-level-most .left, w .level-at-level .ensures, ap (highest ls) (present-more os i _ (c .loop-name-test .taken) (w .in-Some .is)))
-    | in-rest w ↦ omega (arith, c .loop-name .inv, w .most-is, ap (highest ls) (present-more os i _ (c .loop-name-test .taken) (w .in-rest .is)))
+      | in-Some·then-level-most w ↦ omega (arith, c .loop-name .inv, w .most-is, w .if-level-most .taken, w .level-at-level .ensures, ap (highest ls) (present-more os i _ (c .loop-name-test .taken) (w .in-Some .is)))
+      | in-Some·else-level-most w ↦ omega (arith, c .loop-name .inv, w .most-is, w .if-level-most .left, w .level-at-level .ensures, ap (highest ls) (present-more os i _ (c .loop-name-test .taken) (w .in-Some .is)))
+      | in-rest w ↦ omega (arith, c .loop-name .inv, w .most-is, ap (highest ls) (present-more os i _ (c .loop-name-test .taken) (w .in-rest .is)))
     ]
 
 pub returns : need.returns

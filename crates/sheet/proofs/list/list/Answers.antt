@@ -36,8 +36,8 @@ loop-child-again-then-child-2 c =
     let t = c .pre .tree in
     let written : c .line .result ≡ lineOf ends (level + 1) child (nodeOf (row rows child .made)) = cc in
     let all : (f : Forest) → Rooted rows m f → Went rows ends m old (set lines n (c .line .result)) f child (row rows child .first) (level + 1) (n + 1) =
-          λ f h. subst (λ (x : Line). Went rows ends m old (set lines n x) f child (row rows child .first) (level + 1) (n + 1)) (sym written)
-            (enters rows ends m old lines f (c .loop-child .node) child level n (c .loop-child .inv .1 f h) (c .if-child-2 .taken)) in
+    λ f h. subst (λ (x : Line). Went rows ends m old (set lines n x) f child (row rows child .first) (level + 1) (n + 1)) (sym written)
+    (enters rows ends m old lines f (c .loop-child .node) child level n (c .loop-child .inv .1 f h) (c .if-child-2 .taken)) in
     (safe rows ends m old (set lines n (c .line .result)) (t .0) child (row rows child .first) (level + 1) (n + 1) (all (t .0) (record { few = c .pre .few; links = t .1; once = t .2; named = t .3 })), all)
 
 pub loop-child-again : need.loop-child-again
@@ -53,7 +53,7 @@ loop-child-again c =
     let t = c .pre .tree in
     let ne : node ≢ 0 = λ z. elim (c .if-child .came) [ then-child w ↦ w .if-child .taken (c .if-child-2 .left) | else-child·then-node-ne0 w ↦ w .if-node-ne0 .taken z ] in
     let all : (f : Forest) → Rooted rows m f → Went rows ends m old lines f (row rows node .parent) (row rows node .next) (level - 1) n =
-          λ f h. climbs rows ends m old lines f node (c .loop-child .child) level n (c .loop-child .inv .1 f h) (c .if-child-2 .left) ne in
+    λ f h. climbs rows ends m old lines f node (c .loop-child .child) level n (c .loop-child .inv .1 f h) (c .if-child-2 .left) ne in
     (safe rows ends m old lines (t .0) (row rows node .parent) (row rows node .next) (level - 1) n (all (t .0) (record { few = c .pre .few; links = t .1; once = t .2; named = t .3 })), all)
 
 pub returns : need.returns

@@ -9,7 +9,7 @@ abbrev pub Inv-loop-child : given.InvT-loop-child
 Inv-loop-child l =
     Safe (l .nodes) (length (l .scopes)) (l .node) (l .child) (l .level) (l .n)
     × ((f : Forest) → Rooted (l .nodes) (length (l .scopes)) f
-      → Went (l .nodes) (endsOf (l .scopes)) (length (l .scopes)) (l .entry .lines) (l .lines) f (l .node) (l .child) (l .level) (l .n))
+    → Went (l .nodes) (endsOf (l .scopes)) (length (l .scopes)) (l .entry .lines) (l .lines) f (l .node) (l .child) (l .level) (l .n))
 
 -- a line takes one turn down and one up
 abbrev pub μ-loop-child : given.MeasureT-loop-child

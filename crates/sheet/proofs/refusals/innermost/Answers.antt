@@ -19,6 +19,7 @@ index-nodes-at c =
 
 pub returns : need.returns
 returns c σ h =
-    let ns = items (memory (c .args .s .now) .nodes) in
-    (c .open-count .ensures _ (σ .tree) (σ .opened) (subst (λ (xs : List NodeRow). Planted xs (statuses (σ .scopes)) (c .args .s .now .innermost) (σ .tree) (σ .opened)) (sym (c .put-nodes .ensures)) (h .planted)),
-     c .made-by .ensures ∙ ap (λ xs. nodeOf (row xs (c .args .s .now .innermost) .made)) (c .put-nodes .ensures) ∙ innermost-node ns (statuses (σ .scopes)) (c .args .s .now .innermost) (σ .tree) (σ .opened) (h .planted))
+    let ns = items (memory (c .args .s .now) .nodes) in (
+      c .open-count .ensures _ (σ .tree) (σ .opened) (subst (λ (xs : List NodeRow). Planted xs (statuses (σ .scopes)) (c .args .s .now .innermost) (σ .tree) (σ .opened)) (sym (c .put-nodes .ensures)) (h .planted)),
+      c .made-by .ensures ∙ ap (λ xs. nodeOf (row xs (c .args .s .now .innermost) .made)) (c .put-nodes .ensures) ∙ innermost-node ns (statuses (σ .scopes)) (c .args .s .now .innermost) (σ .tree) (σ .opened) (h .planted),
+    )

@@ -18,10 +18,11 @@ tree-sound-requires c κs =
     let nodes : length (c .put .result .now) ≡ length (items (m .nodes)) = ap length (c .put .ensures) in
     let scopes : length (c .put-2 .result .now) ≡ length (items (m .scopes)) = ap length (c .put-2 .ensures) in
     record {
-      few =
-        (omega (arith, nodes, some-node m in′ (c .pre .rows)),
-         omega (arith, nodes, items-many (m .nodes) (in′ .nodes), c .pre .fitted .nodes),
-         omega (arith, scopes, items-many (m .scopes) (in′ .scopes), c .pre .fitted .scopes));
+      few = (
+        omega (arith, nodes, some-node m in′ (c .pre .rows)),
+        omega (arith, nodes, items-many (m .nodes) (in′ .nodes), c .pre .fitted .nodes),
+        omega (arith, scopes, items-many (m .scopes) (in′ .scopes), c .pre .fitted .scopes),
+      );
       named = λ k h.
           subst (λ (n : ℕ). ScopeBelow n (nodeAt (c .put .result .now) k)) (sym scopes)
           (subst (λ (xs : List NodeRow). ScopeBelow (length (items (m .scopes))) (nodeAt xs k)) (sym (c .put .ensures)) (node-scopes m in′ (c .pre .rows) k (omega (arith, nodes))));

@@ -23,9 +23,9 @@ returns c =
     let wide = c .push .last .self .rows .now in
     record {
       rows =
-        ap (λ m. take m (c .attach .last .nodes)) (c .push .ensures .count)
-        ∙ ap (λ r. take (n + 1) r) (c .attach .ensures)
-        ∙ append-rows rows n p (c .args .made) (c .pre .room) (c .pre .within) (c .pre .last) wide (c .push .ensures .rows);
+          ap (λ m. take m (c .attach .last .nodes)) (c .push .ensures .count)
+          ∙ ap (λ r. take (n + 1) r) (c .attach .ensures)
+          ∙ append-rows rows n p (c .args .made) (c .pre .room) (c .pre .within) (c .pre .last) wide (c .push .ensures .rows);
       count = c .push .ensures .count;
       rest = ap (λ r. drop (n + 1) r) (c .attach .ensures) ∙ append-rest rows n p (c .args .made) (c .pre .room) (c .pre .within) (c .pre .last) wide (c .push .ensures .rows);
       long = ap length (c .attach .ensures) ∙ append-long rows n p (c .args .made) (c .pre .room) (c .pre .within) (c .pre .last) wide (c .push .ensures .rows);

@@ -19,8 +19,8 @@ loop-name-again c =
     let i = c .loop-name .name-index in
     let k = c .args .k in
     elim (c .match-name .came) [
-      in-Some·else-n-k w ↦ c .loop-name .inv ∙ ap (member k) (present-more os i _ (c .loop-name-test .taken) (w .in-Some .is)) ∙ member-next k (w .in-Some .n) _ (w .if-n-k .left)
-    | in-rest w ↦ c .loop-name .inv ∙ ap (member k) (present-more os i _ (c .loop-name-test .taken) (w .in-rest .is))
+      | in-Some·else-n-k w ↦ c .loop-name .inv ∙ ap (member k) (present-more os i _ (c .loop-name-test .taken) (w .in-Some .is)) ∙ member-next k (w .in-Some .n) _ (w .if-n-k .left)
+      | in-rest w ↦ c .loop-name .inv ∙ ap (member k) (present-more os i _ (c .loop-name-test .taken) (w .in-rest .is))
     ]
 
 pub returns : need.returns

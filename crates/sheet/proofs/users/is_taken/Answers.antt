@@ -21,8 +21,8 @@ returns-then-has-user c =
     let rest = present (drop (i + 1) os) in
     let here = c .loop-i .inv ∙ ap (taken us) (present-more os i _ (c .loop-i-test .taken) (c .in-Some .is)) in
     elim (c .then-has-user .came) [
-      then-has-user·by·then-has-user w ↦ sym (here ∙ taken-user us k rest (sym (c .has-user .ensures) ∙ w .if-has-user .taken))
-    | then-has-user·by·else-has-user·then-among w ↦ sym (here ∙ taken-twice us k rest (sym (w .among .ensures ∙ ap (λ l. member k (present l)) (take-rest os (i + 1))) ∙ w .if-among .taken))
+      | then-has-user·by·then-has-user w ↦ sym (here ∙ taken-user us k rest (sym (c .has-user .ensures) ∙ w .if-has-user .taken))
+      | then-has-user·by·else-has-user·then-among w ↦ sym (here ∙ taken-twice us k rest (sym (w .among .ensures ∙ ap (λ l. member k (present l)) (take-rest os (i + 1))) ∙ w .if-among .taken))
     ]
 
 pub loop-i-again : need.loop-i-again
@@ -32,11 +32,11 @@ loop-i-again c =
     let us = namings (c .args .values .now) (nodesOf (c .args .nodes .now)) in
     let rest = present (drop (i + 1) os) in
     elim (c .match-names-i .came) [
-      in-Some·else-has-user·else-among w ↦
-        let k = w .in-Some .k in
-        c .loop-i .inv ∙ ap (taken us) (present-more os i _ (c .loop-i-test .taken) (w .in-Some .is))
-        ∙ taken-next us k rest (sym (w .has-user .ensures) ∙ w .if-has-user .left) (sym (w .among .ensures ∙ ap (λ l. member k (present l)) (take-rest os (i + 1))) ∙ w .if-among .left)
-    | in-rest w ↦ c .loop-i .inv ∙ ap (taken us) (present-more os i _ (c .loop-i-test .taken) (w .in-rest .is))
+      | in-Some·else-has-user·else-among w ↦
+          let k = w .in-Some .k in
+          c .loop-i .inv ∙ ap (taken us) (present-more os i _ (c .loop-i-test .taken) (w .in-Some .is))
+          ∙ taken-next us k rest (sym (w .has-user .ensures) ∙ w .if-has-user .left) (sym (w .among .ensures ∙ ap (λ l. member k (present l)) (take-rest os (i + 1))) ∙ w .if-among .left)
+      | in-rest w ↦ c .loop-i .inv ∙ ap (taken us) (present-more os i _ (c .loop-i-test .taken) (w .in-rest .is))
     ]
 
 pub returns : need.returns

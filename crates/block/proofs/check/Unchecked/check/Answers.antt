@@ -17,10 +17,11 @@ returns c =
     let w : 512 ≤ length (c .args .self .bytes .now) = omega (arith, c .in-Some .ensures tt .cases .2) in
     let b = c .in-Some .bytes .now in
     let good : faultIn b (c .args .self .place) ≡ None = sym (c .fault-in .ensures) ∙ c .in-rest-fault-in .is in
-    let few : min 31 (c .u16-at .result) ≡ countIn b = omega (arith, c .u16-at .ensures, good-count b (c .args .self .place) good) in
-    (fault-whole _ _ _ w (c .in-Some .ensures tt .cases .0) ∙ good,
-     record {
-       holds = c .in-Some .ensures tt .cases .0;
-       numbered = c .u32-at .ensures ∙ good-number b (c .args .self .place) good;
-       records = ap (recordsFrom b 0) few ∙ ap recordsOf (c .in-Some .ensures tt .cases .0);
-     })
+    let few : min 31 (c .u16-at .result) ≡ countIn b = omega (arith, c .u16-at .ensures, good-count b (c .args .self .place) good) in (
+      fault-whole _ _ _ w (c .in-Some .ensures tt .cases .0) ∙ good,
+      record {
+        holds = c .in-Some .ensures tt .cases .0;
+        numbered = c .u32-at .ensures ∙ good-number b (c .args .self .place) good;
+        records = ap (recordsFrom b 0) few ∙ ap recordsOf (c .in-Some .ensures tt .cases .0);
+      },
+    )

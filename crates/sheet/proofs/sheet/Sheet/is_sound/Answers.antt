@@ -57,9 +57,9 @@ tree-holds-requires c κs =
     let f = c .counts-fit .ensures .0 (c .if-not-counts-fit .left) in
     let in′ = within-long m (c .pre) f in
     let rows : RowsSound m =
-      rows-sound-from m in′ f (sym (c .front-rows-kept .ensures) ∙ c .if-not-front-rows-kept .left) (sym (c .middle-rows-kept .ensures) ∙ c .if-not-middle-rows-kept .left)
-      (sym (c .value-rows-kept .ensures) ∙ c .if-not-value-rows-kept .left) (sym (c .levels-fit .ensures) ∙ c .if-not-levels-fit .left) (sym (c .shapes-kept .ensures) ∙ c .if-not-shapes-kept .left)
-      (c .node-rows-kept .ensures .0 (c .if-not-node-rows-kept .left)) (sym (c .users-apart .ensures) ∙ c .if-not-users-apart .left) in
+    rows-sound-from m in′ f (sym (c .front-rows-kept .ensures) ∙ c .if-not-front-rows-kept .left) (sym (c .middle-rows-kept .ensures) ∙ c .if-not-middle-rows-kept .left)
+    (sym (c .value-rows-kept .ensures) ∙ c .if-not-value-rows-kept .left) (sym (c .levels-fit .ensures) ∙ c .if-not-levels-fit .left) (sym (c .shapes-kept .ensures) ∙ c .if-not-shapes-kept .left)
+    (c .node-rows-kept .ensures .0 (c .if-not-node-rows-kept .left)) (sym (c .users-apart .ensures) ∙ c .if-not-users-apart .left) in
     record { within = in′; fitted = f; rows = rows }
 
 pub returns : need.returns
@@ -68,7 +68,7 @@ returns c =
     let f = c .counts-fit .ensures .0 (c .if-not-counts-fit .left) in
     let in′ = within-long m (c .pre) f in
     let rows : RowsSound m =
-      rows-sound-from m in′ f (sym (c .front-rows-kept .ensures) ∙ c .if-not-front-rows-kept .left) (sym (c .middle-rows-kept .ensures) ∙ c .if-not-middle-rows-kept .left)
-      (sym (c .value-rows-kept .ensures) ∙ c .if-not-value-rows-kept .left) (sym (c .levels-fit .ensures) ∙ c .if-not-levels-fit .left) (sym (c .shapes-kept .ensures) ∙ c .if-not-shapes-kept .left)
-      (c .node-rows-kept .ensures .0 (c .if-not-node-rows-kept .left)) (sym (c .users-apart .ensures) ∙ c .if-not-users-apart .left) in
+    rows-sound-from m in′ f (sym (c .front-rows-kept .ensures) ∙ c .if-not-front-rows-kept .left) (sym (c .middle-rows-kept .ensures) ∙ c .if-not-middle-rows-kept .left)
+    (sym (c .value-rows-kept .ensures) ∙ c .if-not-value-rows-kept .left) (sym (c .levels-fit .ensures) ∙ c .if-not-levels-fit .left) (sym (c .shapes-kept .ensures) ∙ c .if-not-shapes-kept .left)
+    (c .node-rows-kept .ensures .0 (c .if-not-node-rows-kept .left)) (sym (c .users-apart .ensures) ∙ c .if-not-users-apart .left) in
     (λ e. sound-from m in′ rows (c .scopes-hold .ensures .0 (c .if-not-scopes-hold .left)) (c .tree-holds .ensures .0 e), λ s. c .tree-holds .ensures .1 (holds-tree m (s .0) (s .1)))

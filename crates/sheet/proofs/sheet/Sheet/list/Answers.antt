@@ -22,8 +22,8 @@ list-requires c κs =
       few = omega (arith, nodes, few-nodes m (c .pre .sound .0) (c .pre .sound .1));
       room = c .pre .long .lines;
       tree =
-        subst (λ (n : ℕ). Listable (c .put .result .now) n) (ap length (sym (c .put-2 .ensures)))
-        (subst (λ (xs : List NodeRow). Listable xs (length (items (m .scopes)))) (sym (c .put .ensures)) (listable m (c .pre .sound .0) (c .pre .sound .1)));
+          subst (λ (n : ℕ). Listable (c .put .result .now) n) (ap length (sym (c .put-2 .ensures)))
+          (subst (λ (xs : List NodeRow). Listable xs (length (items (m .scopes)))) (sym (c .put .ensures)) (listable m (c .pre .sound .0) (c .pre .sound .1)));
     }
 
 pub returns : need.returns

@@ -11,4 +11,4 @@ abbrev pub Inv-loop-i : given.InvT-loop-i
 Inv-loop-i l =
     (0 < length (l .nodes))
     × (every (nodeRowKept (l .identifiers) (l .values) (statusesOf (l .scopes))) (drop 1 (l .nodes))
-      ≡ every (nodeRowKept (l .identifiers) (l .values) (statusesOf (l .scopes))) (drop (l .i) (l .nodes)))
+    ≡ every (nodeRowKept (l .identifiers) (l .values) (statusesOf (l .scopes))) (drop (l .i) (l .nodes)))

@@ -18,10 +18,10 @@ returns-then-k-limit c =
     let here = c .loop-name .inv .1 ∙ ap (fresh n ms) (present-more (c .args .names .now) (c .loop-name .name-index) _ (c .loop-name-test .taken) (c .in-Some .is)) in
     record {
       value =
-        elim (c .then-k-limit .came) [
-          then-k-limit·by·then-k-limit w ↦ sym (here ∙ fresh-past n ms (c .in-Some .k) _ (w .if-k-limit .taken))
-        | then-k-limit·by·else-k-limit·then-marks-k w ↦ sym (here ∙ fresh-seen n ms (c .in-Some .k) _ (w .if-marks-k .taken))
-        ];
+          elim (c .then-k-limit .came) [
+            | then-k-limit·by·then-k-limit w ↦ sym (here ∙ fresh-past n ms (c .in-Some .k) _ (w .if-k-limit .taken))
+            | then-k-limit·by·else-k-limit·then-marks-k w ↦ sym (here ∙ fresh-seen n ms (c .in-Some .k) _ (w .if-marks-k .taken))
+          ];
       after = λ e. absurd (clash e);
     }
 
@@ -33,16 +33,18 @@ loop-name-again c =
     let i = c .loop-name .name-index in
     let rest = present (drop (i + 1) os) in
     elim (c .match-name .came) [
-      in-Some·else-k-limit·else-marks-k w ↦
-        let more = present-more os i _ (c .loop-name-test .taken) (w .in-Some .is) in
-        (omega arith,
-         c .loop-name .inv .1 ∙ ap (fresh n ms) more ∙ fresh-here n ms (w .in-Some .k) rest (w .if-k-limit .left) (w .if-marks-k .left) ∙ ap (λ l. fresh n l rest) (sym (w .marks-is)),
-         c .loop-name .inv .2 ∙ ap (marked ms) more ∙ ap (λ l. marked l rest) (sym (w .marks-is)))
-    | in-rest w ↦
-        let more = present-more os i _ (c .loop-name-test .taken) (w .in-rest .is) in
-        (omega arith,
-         c .loop-name .inv .1 ∙ ap (fresh n ms) more ∙ ap (λ l. fresh n l rest) (sym (w .marks-is)),
-         c .loop-name .inv .2 ∙ ap (marked ms) more ∙ ap (λ l. marked l rest) (sym (w .marks-is)))
+      | in-Some·else-k-limit·else-marks-k w ↦
+          let more = present-more os i _ (c .loop-name-test .taken) (w .in-Some .is) in (
+            omega arith,
+            c .loop-name .inv .1 ∙ ap (fresh n ms) more ∙ fresh-here n ms (w .in-Some .k) rest (w .if-k-limit .left) (w .if-marks-k .left) ∙ ap (λ l. fresh n l rest) (sym (w .marks-is)),
+            c .loop-name .inv .2 ∙ ap (marked ms) more ∙ ap (λ l. marked l rest) (sym (w .marks-is)),
+          )
+      | in-rest w ↦
+          let more = present-more os i _ (c .loop-name-test .taken) (w .in-rest .is) in (
+            omega arith,
+            c .loop-name .inv .1 ∙ ap (fresh n ms) more ∙ ap (λ l. fresh n l rest) (sym (w .marks-is)),
+            c .loop-name .inv .2 ∙ ap (marked ms) more ∙ ap (λ l. marked l rest) (sym (w .marks-is)),
+          )
     ]
 
 pub returns : need.returns

@@ -23,7 +23,7 @@ returns-then-not-mark-names c =
     let names = ap (λ o. present (o ∷ [])) (c .value-in .ensures ∙ ap valueIn (c .made-by .ensures)) in
     record {
       value =
-        sym (part-stops n (c .args .marks .now) ms (gathered namesIn (nodesOf xs)) (namesIn (nodeOf (getD xs i noNode .made))) (gathered namesIn (nodesOf (drop (i + 1) xs)))
+          sym (part-stops n (c .args .marks .now) ms (gathered namesIn (nodesOf xs)) (namesIn (nodeOf (getD xs i noNode .made))) (gathered namesIn (nodesOf (drop (i + 1) xs)))
           (c .loop-row .inv .1 ∙ at-drop-more (λ l. fresh n ms (gathered namesIn (nodesOf l))) xs i noNode (c .loop-row-test .taken))
           (ap (fresh n ms) (sym names) ∙ sym (c .mark-names .ensures .value) ∙ c .if-not-mark-names .taken));
       after = λ e. absurd (clash e);
@@ -36,15 +36,16 @@ loop-row-again c =
     let xs = c .args .nodes .now in
     let i = c .loop-row .row-index in
     let names = ap (λ o. present (o ∷ [])) (c .value-in .ensures ∙ ap valueIn (c .made-by .ensures)) in
-    let then = c .mark-names .ensures .after (c .if-not-mark-names .left) ∙ ap (marked ms) names in
-    (omega arith,
-     part-goes n (c .args .marks .now) ms (c .mark-names .last .marks) (gathered namesIn (nodesOf xs)) (namesIn (nodeOf (getD xs i noNode .made))) (gathered namesIn (nodesOf (drop (i + 1) xs)))
-       (c .loop-row .inv .1 ∙ at-drop-more (λ l. fresh n ms (gathered namesIn (nodesOf l))) xs i noNode (c .loop-row-test .taken))
-       (ap (fresh n ms) (sym names) ∙ sym (c .mark-names .ensures .value) ∙ c .if-not-mark-names .left)
-       then,
-     part-marks (c .args .marks .now) ms (c .mark-names .last .marks) (gathered namesIn (nodesOf xs)) (namesIn (nodeOf (getD xs i noNode .made))) (gathered namesIn (nodesOf (drop (i + 1) xs)))
-       (c .loop-row .inv .2 ∙ at-drop-more (λ l. marked ms (gathered namesIn (nodesOf l))) xs i noNode (c .loop-row-test .taken))
-       then)
+    let then = c .mark-names .ensures .after (c .if-not-mark-names .left) ∙ ap (marked ms) names in (
+      omega arith,
+      part-goes n (c .args .marks .now) ms (c .mark-names .last .marks) (gathered namesIn (nodesOf xs)) (namesIn (nodeOf (getD xs i noNode .made))) (gathered namesIn (nodesOf (drop (i + 1) xs)))
+          (c .loop-row .inv .1 ∙ at-drop-more (λ l. fresh n ms (gathered namesIn (nodesOf l))) xs i noNode (c .loop-row-test .taken))
+          (ap (fresh n ms) (sym names) ∙ sym (c .mark-names .ensures .value) ∙ c .if-not-mark-names .left)
+          then,
+      part-marks (c .args .marks .now) ms (c .mark-names .last .marks) (gathered namesIn (nodesOf xs)) (namesIn (nodeOf (getD xs i noNode .made))) (gathered namesIn (nodesOf (drop (i + 1) xs)))
+          (c .loop-row .inv .2 ∙ at-drop-more (λ l. marked ms (gathered namesIn (nodesOf l))) xs i noNode (c .loop-row-test .taken))
+          then,
+    )
 
 pub returns : need.returns
 returns c =

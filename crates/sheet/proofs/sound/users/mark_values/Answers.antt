@@ -21,7 +21,7 @@ returns-then-not-mark-names c =
     let names = ap present (c .children .ensures ∙ ap childrenOf (c .of .ensures)) in
     record {
       value =
-        sym (part-stops n (c .args .marks .now) ms (gathered namesOf xs) (namesOf (getD xs i noValue)) (gathered namesOf (drop (i + 1) xs))
+          sym (part-stops n (c .args .marks .now) ms (gathered namesOf xs) (namesOf (getD xs i noValue)) (gathered namesOf (drop (i + 1) xs))
           (c .loop-row .inv .1 ∙ at-drop-more (λ l. fresh n ms (gathered namesOf l)) xs i noValue (c .loop-row-test .taken))
           (ap (fresh n ms) (sym names) ∙ sym (c .mark-names .ensures .value) ∙ c .if-not-mark-names .taken));
       after = λ e. absurd (clash e);
@@ -34,15 +34,16 @@ loop-row-again c =
     let xs = c .args .values .now in
     let i = c .loop-row .row-index in
     let names = ap present (c .children .ensures ∙ ap childrenOf (c .of .ensures)) in
-    let then = c .mark-names .ensures .after (c .if-not-mark-names .left) ∙ ap (marked ms) names in
-    (omega arith,
-     part-goes n (c .args .marks .now) ms (c .mark-names .last .marks) (gathered namesOf xs) (namesOf (getD xs i noValue)) (gathered namesOf (drop (i + 1) xs))
-       (c .loop-row .inv .1 ∙ at-drop-more (λ l. fresh n ms (gathered namesOf l)) xs i noValue (c .loop-row-test .taken))
-       (ap (fresh n ms) (sym names) ∙ sym (c .mark-names .ensures .value) ∙ c .if-not-mark-names .left)
-       then,
-     part-marks (c .args .marks .now) ms (c .mark-names .last .marks) (gathered namesOf xs) (namesOf (getD xs i noValue)) (gathered namesOf (drop (i + 1) xs))
-       (c .loop-row .inv .2 ∙ at-drop-more (λ l. marked ms (gathered namesOf l)) xs i noValue (c .loop-row-test .taken))
-       then)
+    let then = c .mark-names .ensures .after (c .if-not-mark-names .left) ∙ ap (marked ms) names in (
+      omega arith,
+      part-goes n (c .args .marks .now) ms (c .mark-names .last .marks) (gathered namesOf xs) (namesOf (getD xs i noValue)) (gathered namesOf (drop (i + 1) xs))
+          (c .loop-row .inv .1 ∙ at-drop-more (λ l. fresh n ms (gathered namesOf l)) xs i noValue (c .loop-row-test .taken))
+          (ap (fresh n ms) (sym names) ∙ sym (c .mark-names .ensures .value) ∙ c .if-not-mark-names .left)
+          then,
+      part-marks (c .args .marks .now) ms (c .mark-names .last .marks) (gathered namesOf xs) (namesOf (getD xs i noValue)) (gathered namesOf (drop (i + 1) xs))
+          (c .loop-row .inv .2 ∙ at-drop-more (λ l. marked ms (gathered namesOf l)) xs i noValue (c .loop-row-test .taken))
+          then,
+    )
 
 pub returns : need.returns
 returns c =

@@ -14,7 +14,7 @@ returns-then-mark-values c =
     let none = replicate 1024 false in
     c .mark-nodes .ensures .value
     ∙ sym (part-goes (length vs) none none (c .mark-values .last .marks) (namings vs xs) (gathered namesOf vs) (gathered namesIn xs) refl
-      (sym (c .mark-values .ensures .value) ∙ c .if-mark-values .taken) (c .mark-values .ensures .after (c .if-mark-values .taken)))
+    (sym (c .mark-values .ensures .value) ∙ c .if-mark-values .taken) (c .mark-values .ensures .after (c .if-mark-values .taken)))
 
 pub returns-else-mark-values : need.returns-else-mark-values
 returns-else-mark-values c =
