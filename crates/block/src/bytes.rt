@@ -6,7 +6,7 @@ ghost use lib.ListN.{length};
 ghost use Rattle.block.specs.Bytes.{u16At, u32At};
 
 /// The two bytes from `at` on.
-pub fn u16_at(bytes: &[u8], at: usize) -> u16
+pub(crate) fn u16_at(bytes: &[u8], at: usize) -> u16
     requires { ⌜ at + 2 ≤ length (now bytes) ⌝ }
     ensures { λ r. ⌜ r ≡ u16At (now (bytes .entry)) at ⌝ }
 {
@@ -14,7 +14,7 @@ pub fn u16_at(bytes: &[u8], at: usize) -> u16
 }
 
 /// The four bytes from `at` on.
-pub fn u32_at(bytes: &[u8], at: usize) -> u32
+pub(crate) fn u32_at(bytes: &[u8], at: usize) -> u32
     requires { ⌜ at + 4 ≤ length (now bytes) ⌝ }
     ensures { λ r. ⌜ r ≡ u32At (now (bytes .entry)) at ⌝ }
 {

@@ -61,8 +61,7 @@ pub struct Checked<'a> {
 }
 
 /// Each byte at the places that are summed, times its place and one more.
-pub fn check_of(bytes: &[u8]) -> u32
-    requires { ⌜ 512 ≤ length (now bytes) ⌝ }
+pub fn check_of(bytes: &[u8; 512]) -> u32
     ensures { λ r. ⌜ r ≡ checkOf (now (bytes .entry)) ⌝ }
 {
     let mut sum = 0;
