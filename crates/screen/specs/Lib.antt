@@ -16,3 +16,4 @@ pub mod Step
 pub mod Records
 pub mod WellFormed
 pub mod Laws
+pub mod Rules
