@@ -10,3 +10,4 @@ pub mod Distinct
 pub mod Scoping
 pub mod Filling
 pub mod Forming
+pub mod MergeSampled

@@ -17,3 +17,12 @@ pub mod Records
 pub mod WellFormed
 pub mod Laws
 pub mod Rules
+pub mod LastUse
+pub mod OwnShapes
+pub mod ListRule
+pub mod Found
+pub mod Course
+pub mod Joining
+pub mod Scan
+pub mod Merge
+pub mod MergeSamples

@@ -15,6 +15,7 @@ pub use entry::Entry;
 pub use entry::Part;
 pub use entry::Put;
 pub use laws::formed_stands;
+pub use laws::samples_stand;
 pub use node::Node;
 pub use rows::DependencyRow;
 pub use rows::IdentifierRow;

@@ -1,0 +1,185 @@
+-- Threads of records whose Merge is known, each named by what it shows.
+use mathlib.Core.Path.{_≡_}
+use mathlib.Core.Bool.{Bool, true, false, not, _&&_}
+use mathlib.Core.List.{List, [], _∷_, _++_}
+use Prim.Native.Nat.{ℕ}
+use lib.Dec.{eqb}
+use Rattle.std.specs.declared.result.Result.{Result}
+use Rattle.std.specs.declared.result.Result.the-variants.{Ok, Err}
+use Rattle.block.specs.declared.record.Record.{Record}
+use Rattle.screen.specs.State.{State, new}
+use Rattle.screen.specs.Lists.{every}
+use Rattle.screen.specs.Rules.{Dep, Meaning}
+use Rattle.screen.specs.ListRule.{listMeaning, bothWaysMeaning}
+use Rattle.screen.specs.Step.{step, listing}
+use Rattle.screen.specs.Merge.{Merged, mergeOf}
+use Rattle.screen.specs.declared.answer.Answer.{Answer}
+use Rattle.screen.specs.declared.answer.Refusal.{Refusal}
+use Rattle.screen.specs.declared.answer.Line.{Line}
+
+abbrev pub none : ℕ
+none = 4294967295
+
+-- a record by its fields
+abbrev pub made : ℕ → ℕ → ℕ → ℕ → ℕ → ℕ → Record
+made tag p q r s t = record { tag = tag; p = p; q = q; r = r; s = s; t = t }
+
+abbrev pub type : ℕ → ℕ → Record
+type kind shape = made 1 kind 0 shape 0 0
+
+abbrev pub identifier : ℕ → ℕ → Record
+identifier declaration typ = made 2 0 0 declaration typ 0
+
+abbrev pub scope : ℕ → ℕ → Record
+scope start end = made 4 0 0 start end 0
+
+-- a dependency with no path
+abbrev pub dependency : ℕ → Record
+dependency i = made 5 0 0 i 0 0
+
+-- an identifier declared under its own key
+abbrev pub declaration : ℕ → Record
+declaration i = made 6 0 0 i i 0
+
+abbrev pub read : ℕ → Record
+read i = made 8 0 0 i 0 0
+
+abbrev pub loadLocal : ℕ → Record
+loadLocal k = made 9 5 1 k none 0
+
+abbrev pub sequence : ℕ → ℕ → Record
+sequence order value = made 9 14 0 order value none
+
+abbrev pub add : ℕ → ℕ → ℕ → Record
+add order value target = made 10 0 0 order value target
+
+abbrev pub enter : ℕ → Record
+enter k = made 11 2 0 k 0 0
+
+abbrev pub leave : Record
+leave = made 12 0 0 0 0 0
+
+abbrev pub ownShape : ℕ → Record
+ownShape s = made 15 0 0 s 0 0
+
+-- a Scope with nothing in it
+abbrev pub empty : ℕ → List Record
+empty k = enter k ∷ leave ∷ []
+
+-- types 0 Primitive, 1 an array, 2 an Object of a host's shape; identifiers 0 x, 1 y and 2 z are plain, 3, 4 and 5 lasting, 6 plain, 7 of the host's shape
+abbrev pub names : List Record
+names =
+    type 0 0 ∷ type 2 1 ∷ type 2 9 ∷ identifier 0 0 ∷ identifier 1 0 ∷ identifier 2 0 ∷ identifier 3 1 ∷ identifier 4 1 ∷ identifier 5 1 ∷ identifier 6 0 ∷ identifier 7 2 ∷ []
+
+-- a Scope, an instruction that loads x into 6, and a Scope with an instruction that uses 6 at this order; ends of the Scopes first
+abbrev pub loaded : ℕ → ℕ → ℕ → List Record
+loaded first second order =
+    names ++ (scope 1 first ∷ scope 6 second ∷ read 0 ∷ read 6 ∷ loadLocal 0 ∷ loadLocal 1 ∷ enter 0 ∷ leave ∷ add 5 0 6 ∷ enter 1 ∷ add order 1 none ∷ leave ∷ [])
+
+-- the same, but the use is the value of a sequence of this order
+abbrev pub sequenced : ℕ → List Record
+sequenced order =
+    names ++ (scope 1 5 ∷ scope 6 9 ∷ read 0 ∷ read 6 ∷ loadLocal 0 ∷ loadLocal 1 ∷ sequence order 1 ∷ enter 0 ∷ leave ∷ add 5 0 6 ∷ enter 1 ∷ add 7 2 none ∷ leave ∷ [])
+
+-- a Scope [x] that declares i and j, and a Scope [i]
+abbrev pub feeding : ℕ → ℕ → List Record
+feeding i j = names ++ ((scope 1 5 ∷ dependency 0 ∷ declaration i ∷ declaration j ∷ scope 5 9 ∷ dependency i ∷ []) ++ (empty 0 ++ empty 1))
+
+-- three Scopes [x]: the first and the last declare a lasting type, the second has these parts
+abbrev pub three : List Record → List Record
+three parts =
+    names ++ ((scope 1 5 ∷ dependency 0 ∷ declaration 3 ∷ scope 5 9 ∷ dependency 0 ∷ parts)
+    ++ ((scope 9 12 ∷ dependency 0 ∷ declaration 5 ∷ []) ++ (empty 0 ++ (empty 1 ++ empty 2))))
+
+-- a Scope [x, x] with one of [x, y] in it
+abbrev pub repeating : List Record
+repeating = names ++ (scope 1 5 ∷ dependency 0 ∷ dependency 0 ∷ scope 2 4 ∷ dependency 0 ∷ dependency 1 ∷ enter 0 ∷ enter 1 ∷ leave ∷ leave ∷ [])
+
+-- records, a rule, and what its Merge of the sheet that they build answers
+pub record Sample : Type 0 where
+  pub rule : Meaning
+  pub joined : ℕ
+  pub flattened : ℕ
+  pub records : List Record
+
+abbrev pub sample : Meaning → ℕ → ℕ → List Record → Sample
+sample m j f rs = record { rule = m; joined = j; flattened = f; records = rs }
+
+abbrev pub samples : List Sample
+samples =
+    -- the target is used at 8, before the second Scope's end at 9
+    sample listMeaning 1 0 (loaded 5 9 8)
+    -- and not before its end at 8
+    ∷ sample listMeaning 0 0 (loaded 5 8 8)
+    -- the first Scope ends at 9, but the test asks the second Scope's own end, 7
+    ∷ sample listMeaning 0 0 (loaded 9 7 8)
+    -- a sequence's value is visited with the sequence's order, 8 or 9, not with its instruction's, 7
+    ∷ sample listMeaning 1 0 (sequenced 8)
+    ∷ sample listMeaning 0 0 (sequenced 9)
+    -- fed by a declaration of lasting type
+    ∷ sample listMeaning 1 0 (feeding 3 4)
+    -- fed by a plain one, though another is lasting
+    ∷ sample listMeaning 0 0 (feeding 6 4)
+    -- an Object of a host's shape is lasting once that shape is put
+    ∷ sample listMeaning 0 0 (feeding 7 4)
+    ∷ sample listMeaning 1 0 (ownShape 9 ∷ feeding 7 4)
+    -- the second declares nothing, so it joins and ends the run
+    ∷ sample listMeaning 1 0 (three [])
+    -- the second declares a lasting type: it is asked before its declarations move, and the run goes on
+    ∷ sample listMeaning 2 0 (three (declaration 4 ∷ []))
+    -- [x, z] in [x, y] in [x, x]: the middle one goes, and the inner one is compared with it as found
+    ∷ sample listMeaning 0 1
+      (names ++ (scope 1 9 ∷ dependency 0 ∷ dependency 0 ∷ scope 2 8 ∷ dependency 0 ∷ dependency 1 ∷ scope 3 7 ∷ dependency 0 ∷ dependency 2
+        ∷ enter 0 ∷ enter 1 ∷ enter 2 ∷ leave ∷ leave ∷ leave ∷ []))
+    -- the list rule takes [x, x] and [x, y] for the same, the both-ways rule does not
+    ∷ sample listMeaning 0 1 repeating
+    ∷ sample bothWaysMeaning 0 0 repeating
+    ∷ []
+
+-- each record is taken, and the sheet that they build
+abbrev pub isOk : Result Answer Refusal → Bool
+isOk (Ok a) = true
+isOk (Err r) = false
+
+abbrev pub allTaken : State → List Record → Bool
+allTaken σ [] = true
+allTaken σ (x ∷ xs) = let y = step σ x in isOk (y .answer) && allTaken (y .sheet) xs
+
+abbrev pub built : State → List Record → State
+built σ [] = σ
+built σ (x ∷ xs) = built (step σ x .sheet) xs
+
+abbrev pub passes : Sample → Bool
+passes x =
+    let o = mergeOf (x .rule) (built new (x .records)) in
+    allTaken new (x .records) && eqb (o .joined) (x .joined) && eqb (o .flattened) (x .flattened)
+
+-- entries with no path: x, y
+abbrev pub entry : ℕ → Dep
+entry d = record { declaration = d; path = [] }
+
+-- [x, x] with [x, y] and [x, y] with [x, x], by the list rule and both ways
+abbrev pub lists-pass : Bool
+lists-pass =
+    let xx = entry 0 ∷ entry 0 ∷ [] in
+    let xy = entry 0 ∷ entry 1 ∷ [] in
+    listMeaning .same xx xy && not (bothWaysMeaning .same xx xy) && not (listMeaning .same xy xx)
+
+-- two Scopes that end at 3 and 5 become one that ends at 5
+abbrev pub two : List Record
+two = scope 1 3 ∷ scope 3 5 ∷ (empty 0 ++ empty 1)
+
+-- a lone line: level, letter, node, Scope and end
+abbrev pub only : ℕ → ℕ → ℕ → ℕ → ℕ → List Line → Bool
+only l c n k e [] = false
+only l c n k e (x ∷ []) = eqb (x .level) l && eqb (x .letter) c && eqb (x .node) n && eqb (x .scope) k && eqb (x .end) e
+only l c n k e (x ∷ y ∷ ys) = false
+
+abbrev pub two-pass : Bool
+two-pass =
+    let o = mergeOf listMeaning (built new two) in
+    allTaken new two && eqb (o .joined) 1 && eqb (o .flattened) 0 && only 1 83 1 0 5 (listing (o .sheet))
+
+-- every sample answers as it should
+abbrev pub Samples-hold : Type 0
+Samples-hold = (every passes samples && lists-pass && two-pass) ≡ true
