@@ -11,3 +11,10 @@ pub mod Scoping
 pub mod Filling
 pub mod Forming
 pub mod MergeSampled
+pub mod MergeSteps
+pub mod MergeTurns
+pub mod Times
+pub mod Weights
+pub mod MergeReading
+pub mod Fates
+pub mod MergeFlats

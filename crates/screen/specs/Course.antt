@@ -1,24 +1,20 @@
 -- What a Merge changes on its way.
-use mathlib.Core.Bool.{Bool, true, false, cond}
-use mathlib.Core.List.{List, [], _∷_, _++_}
+use mathlib.Core.Bool.{cond}
+use mathlib.Core.List.{List, [], _∷_, _++_, map}
 use Prim.Native.Nat.{ℕ, _+_}
 use lib.Dec.{eqb}
 use Rattle.std.specs.declared.option.Option.{Option}
 use Rattle.std.specs.declared.option.Option.the-variants.{Some, None}
 use Rattle.screen.specs.Found.{scopeAt}
+use Rattle.screen.specs.Lists.{member}
 use Rattle.screen.specs.State.{State, Scope}
 use Rattle.screen.specs.declared.scope.Status.{Status}
 use Rattle.screen.specs.declared.scope.Status.the-variants.{Joined, Flattened}
 
--- a Scope that left the tree, and its node
-pub record Gone : Type 0 where
-  pub node : ℕ
-  pub scope : ℕ
-
--- a join: the keeper, and the Scope that it took
+-- a join: the keeper, and the Scope that joined it
 pub record Join : Type 0 where
   pub keeper : ℕ
-  pub taken : Gone
+  pub joined : ℕ
 
 -- where each Scope ends and the rows that it declares, the source of each declaration, and what was joined and flattened, the last first
 pub record Course : Type 0 where
@@ -26,7 +22,7 @@ pub record Course : Type 0 where
   pub declares : ℕ → List ℕ
   pub sources : ℕ → Option ℕ
   pub joins : List Join
-  pub flats : List Gone
+  pub flats : List ℕ
 
 -- a function changed at one number
 abbrev pub put : {A : Type 0} → (ℕ → A) → ℕ → A → ℕ → A
@@ -36,24 +32,18 @@ put f k a n = cond (eqb n k) a (f n)
 abbrev pub start : State → Course
 start σ = record { ends = λ k. scopeAt σ k .end; declares = λ k. scopeAt σ k .declares; sources = λ d. None; joins = []; flats = [] }
 
--- Scope k was joined
-abbrev pub joinedIn : ℕ → List Join → Bool
-joinedIn k [] = false
-joinedIn k (j ∷ js) = cond (eqb k (j .taken .scope)) true (joinedIn k js)
-
--- Scope k was flattened
-abbrev pub flatIn : ℕ → List Gone → Bool
-flatIn k [] = false
-flatIn k (g ∷ gs) = cond (eqb k (g .scope)) true (flatIn k gs)
+-- the Scopes that were joined
+abbrev pub joinedIn : List Join → List ℕ
+joinedIn js = map (λ j. j .joined) js
 
 -- the Scopes that joined keeper k, the first first
 abbrev pub mergedInto : ℕ → List Join → List ℕ
 mergedInto k [] = []
-mergedInto k (j ∷ js) = mergedInto k js ++ cond (eqb k (j .keeper)) (j .taken .scope ∷ []) []
+mergedInto k (j ∷ js) = mergedInto k js ++ cond (eqb k (j .keeper)) (j .joined ∷ []) []
 
 -- how Scope k stands, which stood so before
 abbrev pub statusAfter : Course → ℕ → Status → Status
-statusAfter c k s = cond (joinedIn k (c .joins)) Joined (cond (flatIn k (c .flats)) Flattened s)
+statusAfter c k s = cond (member k (joinedIn (c .joins))) Joined (cond (member k (c .flats)) Flattened s)
 
 -- Scope k as the Merge leaves it
 abbrev pub scopeAfter : Course → ℕ → Scope → Scope

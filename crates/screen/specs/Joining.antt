@@ -7,7 +7,7 @@ use Rattle.std.specs.declared.option.Option.{Option}
 use Rattle.std.specs.declared.option.Option.the-variants.{Some, None}
 use Rattle.screen.specs.Rules.{Dep}
 use Rattle.screen.specs.Found.{Found, Need, Declared}
-use Rattle.screen.specs.Course.{Course, Join, Gone, put}
+use Rattle.screen.specs.Course.{Course, Join, put}
 
 abbrev pub isNil : {A : Type 0} → List A → Bool
 isNil [] = true
@@ -83,13 +83,13 @@ abbrev pub unless : Found → ℕ → List ℕ → List ℕ
 unless E e [] = []
 unless E e (r ∷ rs) = cond (usedBefore (E .lastUse (E .declared r .declaration)) e) (unless E e rs) (r ∷ unless E e rs)
 
--- keeper k takes the Scope n of node m: the larger end, its declarations, and it is noted
-abbrev pub join : Found → ℕ → ℕ → ℕ → Course → Course
-join E k m n st =
+-- keeper k takes the Scope n: the larger end, its declarations, and it is noted
+abbrev pub join : Found → ℕ → ℕ → Course → Course
+join E k n st =
     record {
       ends = put (st .ends) k (max (st .ends k) (st .ends n));
       declares = put (put (st .declares) k (unless E (max (st .ends k) (st .ends n)) (setRows E (st .declares k) (st .declares n)))) n [];
       sources = st .sources;
-      joins = record { keeper = k; taken = record { node = m; scope = n } } ∷ st .joins;
+      joins = record { keeper = k; joined = n } ∷ st .joins;
       flats = st .flats;
     }

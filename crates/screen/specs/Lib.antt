@@ -26,3 +26,5 @@ pub mod Joining
 pub mod Scan
 pub mod Merge
 pub mod MergeSamples
+pub mod Reading
+pub mod MergeLaws

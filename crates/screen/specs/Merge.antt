@@ -9,7 +9,7 @@ use Rattle.screen.specs.Forest.{Forest, bare, tree, _⊕_}
 use Rattle.screen.specs.Rules.{Meaning}
 use Rattle.screen.specs.State.{State}
 use Rattle.screen.specs.Found.{Found, foundOf}
-use Rattle.screen.specs.Course.{Course, Gone, start, scopesFrom}
+use Rattle.screen.specs.Course.{Course, start, scopesFrom}
 use Rattle.screen.specs.Scan.{Out, idle, lone, before, scan}
 use Rattle.screen.specs.declared.node.Node.{Node}
 use Rattle.screen.specs.declared.node.Node.the-variants.{Body, Add, Terminal, Arm, Scope, Pruned}
@@ -34,20 +34,20 @@ flattens E (Scope s) (Some q) = E .rule .same (E .entries q) (E .entries s)
 flattens E (Pruned s) p = false
 
 -- the Scope that a node opened is noted as flattened
-abbrev pub noted : Node → ℕ → List Gone → List Gone
-noted Body n gs = gs
-noted (Add o v t) n gs = gs
-noted (Terminal k o v) n gs = gs
-noted Arm n gs = gs
-noted (Scope s) n gs = record { node = n; scope = s } ∷ gs
-noted (Pruned s) n gs = gs
+abbrev pub noted : Node → List ℕ → List ℕ
+noted Body gs = gs
+noted (Add o v t) gs = gs
+noted (Terminal k o v) gs = gs
+noted Arm gs = gs
+noted (Scope s) gs = s ∷ gs
+noted (Pruned s) gs = gs
 
-abbrev pub flattened : Node → ℕ → Course → Course
-flattened x n st = record { ends = st .ends; declares = st .declares; sources = st .sources; joins = st .joins; flats = noted x n (st .flats) }
+abbrev pub flattened : Node → Course → Course
+flattened x st = record { ends = st .ends; declares = st .declares; sources = st .sources; joins = st .joins; flats = noted x (st .flats) }
 
 -- a node whose children are worked: it holds them, or they take its place
 abbrev pub settle : Bool → Node → ℕ → Out → Out
-settle true x n o = record { forest = o .forest; st = flattened x n (o .st) }
+settle true x n o = record { forest = o .forest; st = flattened x (o .st) }
 settle false x n o = record { forest = lone n x (o .forest); st = o .st }
 
 -- siblings below the nearest Scope p, first to last: a node's children are worked and scanned before it is settled

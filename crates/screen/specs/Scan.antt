@@ -80,7 +80,7 @@ more false n k c st = record { out = lone n (Scope k) c; run = idle; st = st }
 
 -- a Scope in a run, by whether it joins and whether it is eligible, both asked before anything moves
 abbrev pub meet : Bool → Bool → Found → ℕ → ℕ → Forest → Forest → ℕ → ℕ → Forest → Course → Step
-meet true e E n k c p m b d st = more e n k (c ⊕ (p ⊕ d)) (join E k m b st)
+meet true e E n k c p m b d st = more e n k (c ⊕ (p ⊕ d)) (join E k b st)
 meet false e E n k c p m b d st = begin e (tree n (Scope k) c p) m b d st
 
 -- another node in a run
