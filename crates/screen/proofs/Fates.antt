@@ -64,7 +64,7 @@ fate-standing (as-it-was a b c) = omega arith
 fate-standing (joined a b c) = omega arith
 fate-standing (flattened a b c) = omega arith
 
-fate-joined : {J G O : ℕ} {s t : Status} → Fate J G O s t → cond (isJoined t) 1 0 ≡ cond (isJoined s) 1 0 + J
+pub fate-joined : {J G O : ℕ} {s t : Status} → Fate J G O s t → cond (isJoined t) 1 0 ≡ cond (isJoined s) 1 0 + J
 fate-joined (as-it-was a b c) = omega arith
 fate-joined (joined a b c) = omega arith
 fate-joined (flattened a b c) = omega arith

@@ -18,3 +18,8 @@ pub mod Weights
 pub mod MergeReading
 pub mod Fates
 pub mod MergeFlats
+pub mod Placed
+pub mod MergeStanding
+pub mod MergeScopes
+pub mod MergeFormed
+pub mod MergeFrames

@@ -32,7 +32,7 @@ turns-after (tree n x c s) t = behind (turns-after s t)
 alike-turns : (E : Found) (f g : Forest) (a b : Course) → f ≡ g → Alike a b → Turns E f a g b
 alike-turns E f g a b e h = subst (λ (z : Forest). Turns E f a z b) e (none h)
 
-step-turns : (E : Found) (r : Run) (m : ℕ) (x : Node) (d : Forest) (st : Course) (l : Forest) → Waits r → Turns E (close r (tree m x d l)) st (flush (step E r m x d st) l) (step E r m x d st .st)
+pub step-turns : (E : Found) (r : Run) (m : ℕ) (x : Node) (d : Forest) (st : Course) (l : Forest) → Waits r → Turns E (close r (tree m x d l)) st (flush (step E r m x d st) l) (step E r m x d st .st)
 step-turns E idle m x d st l h =
     let v = view-idle E m x d st in
     alike-turns E (tree m x d l) (flush (step E idle m x d st) l) st (step E idle m x d st .st) (sym (v .same l)) (v .alike)

@@ -1,7 +1,7 @@
 //! What every sheet has, whatever records built it.
 
 ghost use Rattle.screen.specs.Laws.{New-formed, Kept-by-steps};
-ghost use Rattle.screen.specs.MergeLaws.{Reads-same, Counts-add-up, Flattened-exactly};
+ghost use Rattle.screen.specs.MergeLaws.{Reads-same, Counts-add-up, Flattened-exactly, Formed-after};
 ghost use Rattle.screen.specs.MergeSamples.{Samples-hold};
 
 /// A sheet that records build is well-formed: a new one is, and each record keeps it so.
@@ -35,6 +35,13 @@ pub fn counts_stand() -> u8
 /// A Merge flattens a Scope exactly when the rule calls the nearest Scope above, as found, and it the same.
 pub fn flattened_stand() -> u8
     ensures { λ _. ⌜ Flattened-exactly ⌝ }
+{
+    0
+}
+
+/// A well-formed sheet with only the body open is well-formed after a Merge.
+pub fn merge_formed_stands() -> u8
+    ensures { λ _. ⌜ Formed-after ⌝ }
 {
     0
 }

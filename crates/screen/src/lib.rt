@@ -17,6 +17,7 @@ pub use entry::Put;
 pub use laws::counts_stand;
 pub use laws::flattened_stand;
 pub use laws::formed_stands;
+pub use laws::merge_formed_stands;
 pub use laws::reading_stands;
 pub use laws::samples_stand;
 pub use node::Node;
