@@ -23,3 +23,6 @@ pub mod MergeStanding
 pub mod MergeScopes
 pub mod MergeFormed
 pub mod MergeFrames
+pub mod Segments
+pub mod MergeRuns
+pub mod Sides

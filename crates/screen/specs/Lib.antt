@@ -27,4 +27,5 @@ pub mod Scan
 pub mod Merge
 pub mod MergeSamples
 pub mod Reading
+pub mod Neighbours
 pub mod MergeLaws
