@@ -26,3 +26,4 @@ pub mod MergeFrames
 pub mod Segments
 pub mod MergeRuns
 pub mod Sides
+pub mod MergeNeighbours

@@ -178,7 +178,7 @@ fate-flat (as-it-was a b c) e f = absurd (let z : _≡_ {A = ℕ} 0 1 = cc in om
 fate-flat (joined a b c) e f = absurd (let z : _≡_ {A = ℕ} 0 1 = cc in omega arith)
 fate-flat (flattened a b c) e f = omega arith
 
-flat-fate : {J G O : ℕ} {s t : Status} → Fate J G O s t → 0 < G → (s ≡ status.Standing) × (t ≡ status.Flattened)
+pub flat-fate : {J G O : ℕ} {s t : Status} → Fate J G O s t → 0 < G → (s ≡ status.Standing) × (t ≡ status.Flattened)
 flat-fate (as-it-was a b c) h = absurd (omega arith)
 flat-fate (joined a b c) h = absurd (omega arith)
 flat-fate (flattened a b c) h = (refl, refl)

@@ -37,7 +37,7 @@ by-joined k b [] h = absurd h
 by-joined k b (j ∷ js) (inl h) = inl (h .1)
 by-joined k b (j ∷ js) (inr h) = inr (by-joined k b js h)
 
-joined-by : (b : ℕ) (js : List Join) → JoinedIn b js → (k : ℕ) × By k b js
+pub joined-by : (b : ℕ) (js : List Join) → JoinedIn b js → (k : ℕ) × By k b js
 joined-by b [] h = absurd h
 joined-by b (j ∷ js) (inl h) = (j .keeper, inl (refl, h))
 joined-by b (j ∷ js) (inr h) = let z = joined-by b js h in (z .0, inr (z .1))
@@ -393,6 +393,26 @@ module _ (E : Found) (f : Forest) (st : Course) (once : Once f) (new : (a : ℕ)
   calms : (b : ℕ) → Stands (merge E f st .forest) b → (ts : List ℕ) → Law E fin ts b
   calms b h ts k g = absurd (outlasts-not b (by-joined k b (fin .joins) g) h)
 
-  pub record Both : Type 0 where
-    pub sides : Pairs (Q E (Into fin) st) None (spliced E None f)
-    pub targets : Gaps E (Law E fin) None (spliced E None f)
+  whole : Pairs (Q E (Into fin) st) None (spliced E None f) × Gaps E (Law E fin) None (spliced E None f)
+  unfolding merge
+  whole =
+      let F : Course = merge E f st .st in
+      let x : Out = work E None f st in
+      let to = scan-turns E idle (x .forest) (x .st) tt in
+      let w : Worked E F st (spliced E None f) x =
+        works E F st lifts None f st once (λ a g. refl) (turns-later to)
+        (λ b g. calms b (omega (arith, scan-inner E b idle (x .forest) (x .st), inner-fewer b (merge E f st .forest))))
+      in
+      let dx : Once (x .forest) = λ a. omega (arith, once a, turns-fewer a (work-turns E None f st)) in
+      let lev : Level (Q E (Into F) st) None (spliced E None f) = scan-pairs E F st idle (x .forest) (x .st) None tt dx (later-refl F) tt (w .seg) in
+      let sg : Seg E (Gap E F) (Kept st F) (spliced E None f) (merge E f st .forest) = scan-seg E F st idle (x .forest) (x .st) tt dx (later-refl F) held-idle (w .seg) in
+      let row : Row-of E (Law E F) None (spliced E None f) = seg-row E (Gap E F) (Law E F) (Kept st F) lifts None calms sg in
+      (pairs (Q E (Into F) st) None (spliced E None f) lev (w .deep), gaps E (Law E F) None (spliced E None f) row (w .rows))
+
+  -- of good neighbours one was joined
+  pub sides : Pairs (λ a b. Good E st a b → JoinedIn a (fin .joins) ⊎ JoinedIn b (fin .joins)) None (spliced E None f)
+  sides = whole .0
+
+  -- the law of the targets holds of every Scope that has a Scope before it
+  pub targets : Gaps E (Law E fin) None (spliced E None f)
+  targets = whole .1

@@ -12,7 +12,12 @@ use Rattle.screen.specs.Reading.{reading}
 use Rattle.screen.specs.Rules.{Meaning}
 use Rattle.screen.specs.State.{State, Scope}
 use Rattle.screen.specs.Statuses.{isStanding, isJoined}
-use Rattle.screen.specs.Found.{scopeAt, entriesOf}
+use Rattle.screen.specs.Lists.{member}
+use Rattle.screen.specs.LastUse.{lastUse}
+use Rattle.screen.specs.Found.{scopeAt, entriesOf, foundOf}
+use Rattle.screen.specs.Course.{start}
+use Rattle.screen.specs.Joining.{eligible}
+use Rattle.screen.specs.Neighbours.{without, Beside, Behind, UsedBefore}
 use Rattle.screen.specs.Merge.{Merged, mergeOf, under}
 use Rattle.screen.specs.WellFormed.{WellFormed}
 use Rattle.screen.specs.declared.node.Node.{Node}
@@ -74,3 +79,25 @@ Flattened-exactly =
 -- the sheet after a Merge that found only the body open is well-formed
 abbrev pub Formed-after : Type 0
 Formed-after = (m : Meaning) (σ : State) → WellFormed σ → σ .opened ≡ 0 → WellFormed (mergeOf m σ .sheet)
+
+-- the tree found, with each Scope that the Merge flattened replaced by its children throughout
+abbrev pub foundWithout : Meaning → State → Forest
+foundWithout m σ = without (λ k. isFlattened (scopeAt (mergeOf m σ .sheet) k .status)) (σ .tree)
+
+-- this Merge joined Scope k: it stood
+abbrev pub JoinedBy : Meaning → State → ℕ → Type 0
+JoinedBy m σ k = (scopeAt σ k .status ≡ status.Standing) × (scopeAt (mergeOf m σ .sheet) k .status ≡ status.Joined)
+
+-- the targets and stores between a joined Scope and the Scope before it are last used before its end as the Merge left it, and before its keeper's, or never
+abbrev pub Targets-used : Type 0
+Targets-used =
+    (m : Meaning) (σ : State) (b : ℕ) (ts : List ℕ) → WellFormed σ → Behind (foundOf m σ) b ts (foundWithout m σ) → JoinedBy m σ b →
+    UsedBefore (lastUse σ) (scopeAt (mergeOf m σ .sheet) b .end) ts
+    × ((k : ℕ) → member b (scopeAt (mergeOf m σ .sheet) k .merged) ≡ true → UsedBefore (lastUse σ) (scopeAt (mergeOf m σ .sheet) k .end) ts)
+
+-- two Scopes side by side, with the same entries in their dependency lists, no reassignments and the first eligible as found, do not both stand afterwards
+abbrev pub Never-both : Type 0
+Never-both =
+    (m : Meaning) (σ : State) (a b : ℕ) → WellFormed σ → Beside a b (foundWithout m σ) → entriesOf σ a ≡ entriesOf σ b →
+    scopeAt σ a .reassigns ≡ false → scopeAt σ b .reassigns ≡ false → eligible (foundOf m σ) (start σ) a ≡ true →
+    scopeAt (mergeOf m σ .sheet) a .status ≡ status.Standing → scopeAt (mergeOf m σ .sheet) b .status ≡ status.Standing → ⊥

@@ -1,7 +1,7 @@
 //! What every sheet has, whatever records built it.
 
 ghost use Rattle.screen.specs.Laws.{New-formed, Kept-by-steps};
-ghost use Rattle.screen.specs.MergeLaws.{Reads-same, Counts-add-up, Flattened-exactly, Formed-after};
+ghost use Rattle.screen.specs.MergeLaws.{Reads-same, Counts-add-up, Flattened-exactly, Formed-after, Targets-used, Never-both};
 ghost use Rattle.screen.specs.MergeSamples.{Samples-hold};
 
 /// A sheet that records build is well-formed: a new one is, and each record keeps it so.
@@ -42,6 +42,20 @@ pub fn flattened_stand() -> u8
 /// A well-formed sheet with only the body open is well-formed after a Merge.
 pub fn merge_formed_stands() -> u8
     ensures { λ _. ⌜ Formed-after ⌝ }
+{
+    0
+}
+
+/// The targets between a joined Scope and the Scope before it are last used before its end, and its keeper's, or never.
+pub fn targets_stand() -> u8
+    ensures { λ _. ⌜ Targets-used ⌝ }
+{
+    0
+}
+
+/// Scopes side by side with the same entries, no reassignments and an eligible first do not both outlast a Merge.
+pub fn sides_stand() -> u8
+    ensures { λ _. ⌜ Never-both ⌝ }
 {
     0
 }

@@ -20,6 +20,8 @@ pub use laws::formed_stands;
 pub use laws::merge_formed_stands;
 pub use laws::reading_stands;
 pub use laws::samples_stand;
+pub use laws::sides_stand;
+pub use laws::targets_stand;
 pub use node::Node;
 pub use rows::DependencyRow;
 pub use rows::IdentifierRow;
