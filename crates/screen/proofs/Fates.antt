@@ -1,13 +1,12 @@
 -- What becomes of each Scope in a Merge.
 use mathlib.Core.Path.{_≡_, refl, sym, _∙_, ap, subst}
 use mathlib.Core.Bool.{Bool, true, false, cond}
-use mathlib.Core.List.{List, [], _∷_, _++_, map}
-use mathlib.Core.Logic.{_⊎_, inl, inr}
+use mathlib.Core.List.{List, [], _∷_}
 use Prim.Native.Nat.{ℕ, zero, suc, _+_, _<_, _≤_}
 use native.Mathlib.Omega.{arith}
 use lib.ListN.{length, getD}
 use Rattle.std.proofs.shelf.Lists.{getD-map, length-map}
-use Rattle.screen.specs.Forest.{Forest, body}
+use Rattle.screen.specs.Forest.{body}
 use Rattle.screen.specs.Lists.{member}
 use Rattle.screen.specs.Rules.{Meaning}
 use Rattle.screen.specs.State.{State, Scope}
@@ -15,10 +14,10 @@ use Rattle.screen.specs.Statuses.{isStanding, isJoined}
 use Rattle.screen.specs.Standing.{openings}
 use Rattle.screen.specs.Refused.{statuses}
 use Rattle.screen.specs.WellFormed.{WellFormed}
-use Rattle.screen.specs.Found.{Found, foundOf, noScope, scopeAt}
+use Rattle.screen.specs.Found.{foundOf, noScope, scopeAt}
 use Rattle.screen.specs.Course.{Course, start, joinedIn, statusAfter, scopeAfter, scopesFrom}
 use Rattle.screen.specs.Scan.{Out}
-use Rattle.screen.specs.Merge.{Merged, merge, mergeOf}
+use Rattle.screen.specs.Merge.{merge, mergeOf}
 use Rattle.screen.specs.MergeLaws.{isFlattened, howMany, Changes, stays, joins, flattens, Counted, Counts-add-up}
 use Rattle.screen.specs.declared.scope.Status.{Status}
 use Rattle.screen.specs.declared.scope.Status.the-variants as status

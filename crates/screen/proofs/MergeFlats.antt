@@ -9,14 +9,11 @@ use Rattle.std.specs.declared.option.Option.{Option}
 use Rattle.std.specs.declared.option.Option.the-variants.{Some, None}
 use Rattle.std.proofs.shelf.Tests.{false≢true, cases-eq}
 use Rattle.screen.specs.Forest.{Forest, bare, tree, same}
-use Rattle.screen.specs.Rules.{Meaning}
-use Rattle.screen.specs.State.{State}
-use Rattle.screen.specs.WellFormed.{WellFormed}
-use Rattle.screen.specs.Found.{Found, foundOf, scopeAt}
+use Rattle.screen.specs.Found.{Found, foundOf}
 use Rattle.screen.specs.Course.{Course, start}
-use Rattle.screen.specs.Scan.{Run, idle, open-run, Step, step, Out, scan}
-use Rattle.screen.specs.Merge.{under, flattens, settle, work, merge, mergeOf}
-use Rattle.screen.specs.MergeLaws.{Nearest, FlattenedBy, SameAsAbove, Flattened-exactly}
+use Rattle.screen.specs.Scan.{Run, idle, open-run, step, Out, scan}
+use Rattle.screen.specs.Merge.{under, flattens, settle, work, merge}
+use Rattle.screen.specs.MergeLaws.{Nearest, Flattened-exactly}
 use Rattle.screen.specs.declared.node.Node.{Node}
 use Rattle.screen.specs.declared.node.Node.the-variants.{Body, Add, Terminal, Arm, Scope, Pruned}
 use Rattle.screen.specs.declared.scope.Status.{Status}

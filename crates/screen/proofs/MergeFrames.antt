@@ -1,18 +1,18 @@
 -- What turns of a Merge leave alone, and what only grows.
-use mathlib.Core.Path.{_≡_, refl, sym, _∙_, ap, subst}
+use mathlib.Core.Path.{_≡_, refl, _∙_, ap}
 use mathlib.Core.List.{List, [], _∷_}
-use mathlib.Core.Bool.{Bool, true, false, cond}
+use mathlib.Core.Bool.{false}
 use mathlib.Core.Logic.{_⊎_, inl, inr}
-use Prim.Native.Nat.{ℕ, _+_, _≤_, _<_, max}
+use Prim.Native.Nat.{ℕ, _+_, _≤_, max}
 use native.Mathlib.Omega.{arith}
 use lib.Dec.{eqb}
 use Rattle.std.proofs.shelf.Tests.{eqb-true, ne-eqb, cond-both}
 use Rattle.screen.specs.Forest.{Forest, bare, tree, _⊕_, same}
-use Rattle.screen.specs.Standing.{opening, openings}
+use Rattle.screen.specs.Standing.{openings}
 use Rattle.screen.specs.Found.{Found}
-use Rattle.screen.specs.Course.{Course, Join, put}
+use Rattle.screen.specs.Course.{Course, Join}
 use Rattle.screen.specs.Joining.{join}
-use Rattle.screen.specs.Scan.{Run, idle, open-run, close, Step, step, scan}
+use Rattle.screen.specs.Scan.{Run, idle, open-run, close, step, scan}
 use Rattle.screen.specs.declared.node.Node.{Node}
 use Rattle.screen.specs.declared.node.Node.the-variants.{Scope}
 use Rattle.screen.proofs.Counts.{same-self}

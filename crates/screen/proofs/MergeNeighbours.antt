@@ -1,9 +1,9 @@
 -- The laws of neighbours, of a well-formed sheet.
 use mathlib.Core.Path.{_≡_, refl, sym, _∙_, ap, subst}
-use mathlib.Core.List.{List, [], _∷_, _++_}
+use mathlib.Core.List.{List, [], _∷_}
 use mathlib.Core.Bool.{Bool, true, false, cond, _||_}
 use mathlib.Core.Logic.{_⊎_, inl, inr}
-use Prim.Native.Nat.{ℕ, zero, suc, _+_, _<_, _≤_}
+use Prim.Native.Nat.{ℕ, zero, suc, _<_, _≤_}
 use native.Mathlib.Omega.{arith}
 use lib.Dec.{eqb}
 use lib.ListN.{length, getD}
@@ -17,13 +17,12 @@ use Rattle.screen.specs.LastUse.{lastUse}
 use Rattle.screen.specs.Rules.{Meaning}
 use Rattle.screen.specs.State.{State, Scope}
 use Rattle.screen.specs.Statuses.{isStanding, isJoined}
-use Rattle.screen.specs.Standing.{opening, openings}
-use Rattle.screen.specs.Refused.{statuses}
+use Rattle.screen.specs.Standing.{opening}
 use Rattle.screen.specs.WellFormed.{WellFormed}
 use Rattle.screen.specs.Found.{Found, foundOf, noScope, scopeAt}
 use Rattle.screen.specs.Course.{Course, Join, start, joinedIn, mergedInto, scopesFrom}
 use Rattle.screen.specs.Merge.{under, flattens, mergeOf}
-use Rattle.screen.specs.Neighbours.{scopeIn, opensOne, unwrap, without, First, Beside, added, Next, Behind, UsedBefore}
+use Rattle.screen.specs.Neighbours.{scopeIn, opensOne, unwrap, without, Beside, added, Next, Behind, UsedBefore}
 use Rattle.screen.specs.MergeLaws.{isFlattened, foundWithout, JoinedBy, Targets-used, Never-both}
 use Rattle.screen.specs.declared.node.Node.{Node}
 use Rattle.screen.specs.declared.node.Node.the-variants as node
@@ -31,9 +30,9 @@ use Rattle.screen.specs.declared.scope.Status.{Status}
 use Rattle.screen.specs.declared.scope.Status.the-variants as status
 use Rattle.screen.proofs.Counts.{same-self, same-other}
 use Rattle.screen.proofs.Members.{member-append}
-use Rattle.screen.proofs.Times.{times, member-times, times-none}
-use Rattle.screen.proofs.Fates.{Fate, as-it-was, joined, flattened, out, fate-of, scope-after, length-after, none-past, gone-once, status-at}
-use Rattle.screen.proofs.MergeFlats.{In, in-times, times-in, FlatHere, FlatAt, flats-in, flats-have, flat-fate}
+use Rattle.screen.proofs.Times.{times}
+use Rattle.screen.proofs.Fates.{Fate, as-it-was, joined, flattened, out, fate-of, scope-after, length-after, none-past, status-at}
+use Rattle.screen.proofs.MergeFlats.{in-times, times-in, FlatHere, FlatAt, flats-in, flats-have, flat-fate}
 use Rattle.screen.proofs.MergeFrames.{By}
 use Rattle.screen.proofs.MergeScopes.{sound}
 use Rattle.screen.proofs.Segments.{Stands, stands-here}

@@ -1,15 +1,12 @@
 -- A tree reads the same after any turns of a Merge.
 use mathlib.Core.Path.{_≡_, refl, sym, _∙_, ap}
-use mathlib.Core.List.{List, [], _∷_, _++_}
-use Prim.Native.Nat.{ℕ}
+use mathlib.Core.List.{_++_}
 use Rattle.std.proofs.shelf.Lists.{append-assoc}
 use Rattle.screen.specs.Forest.{Forest, bare, tree, _⊕_}
 use Rattle.screen.specs.Found.{Found, foundOf}
 use Rattle.screen.specs.Course.{Course, start}
-use Rattle.screen.specs.Reading.{Item, wrapped, reading}
+use Rattle.screen.specs.Reading.{wrapped, reading}
 use Rattle.screen.specs.MergeLaws.{Reads-same}
-use Rattle.screen.specs.declared.node.Node.{Node}
-use Rattle.screen.specs.declared.node.Node.the-variants.{Scope}
 use Rattle.screen.proofs.MergeTurns.{Turns, none, then, below, behind, flat, takes, merge-turns}
 
 reading-join : (f g : Forest) → reading (f ⊕ g) ≡ reading f ++ reading g

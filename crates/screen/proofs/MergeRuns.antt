@@ -1,16 +1,15 @@
 -- A scan keeps the relation between the list found and the list worked.
-use mathlib.Core.Path.{_≡_, refl, sym, _∙_, ap, subst}
+use mathlib.Core.Path.{_≡_, refl, sym, _∙_, subst}
 use mathlib.Core.List.{List, [], _∷_}
 use mathlib.Core.Bool.{Bool, true, false, not, _&&_}
-use Prim.Native.Nat.{ℕ, _+_, _≤_, _<_, max}
+use Prim.Native.Nat.{ℕ, _≤_, max}
 use native.Mathlib.Omega.{arith}
-use mathlib.Core.Logic.{_⊎_, inl, inr}
-use lib.Dec.{eqb}
+use mathlib.Core.Logic.{inl}
 use Rattle.std.specs.declared.option.Option.{Option}
-use Rattle.std.specs.declared.option.Option.the-variants.{Some, None}
+use Rattle.std.specs.declared.option.Option.the-variants.{None}
 use Rattle.std.proofs.shelf.Tests.{eq-eqb, ltb-true, and-parts, false≢true}
 use Rattle.screen.specs.Forest.{Forest, bare, tree, _⊕_}
-use Rattle.screen.specs.Standing.{opening, openings}
+use Rattle.screen.specs.Standing.{openings}
 use Rattle.screen.specs.Found.{Found, Action, Simple, Load, StoreConst, Store, Other}
 use Rattle.screen.specs.Course.{Course, put}
 use Rattle.screen.specs.Joining.{eligible, beforeOr, allBefore, alike, joinsTo, join}
@@ -22,7 +21,7 @@ use Rattle.screen.proofs.Grown.{openings-join}
 use Rattle.screen.proofs.MergeSteps.{⊕-assoc, more-st, Waits, step-waits}
 use Rattle.screen.proofs.MergeTurns.{scan-turns}
 use Rattle.screen.proofs.MergeFrames.{By, Later, later-trans, join-later, turns-later, turns-else, close-openings, step-fewer, step-else}
-use Rattle.screen.proofs.Segments.{Tail, Head, Seg, seg-end, seg-plain, seg-scope, Pend, pend-end, Held, held-idle, held-open, alone, led, Stands, stands-here, head-map, seg-map, pend-seg, pend-snoc, held-seg, pend-tail, head-tail, tail-head}
+use Rattle.screen.proofs.Segments.{Tail, Head, Seg, seg-plain, seg-scope, Pend, pend-end, Held, held-idle, held-open, led, Stands, stands-here, head-map, seg-map, pend-seg, pend-snoc, held-seg, pend-tail, head-tail, tail-head}
 
 -- no Scope is there twice
 abbrev pub Once : Forest → Type 0

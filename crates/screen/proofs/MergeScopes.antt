@@ -1,15 +1,15 @@
 -- What is true of a sheet's Scopes is true of them after a Merge.
 use mathlib.Core.Path.{_≡_, refl, sym, _∙_, ap, subst}
 use mathlib.Core.Bool.{Bool, true, false, cond, _&&_}
-use mathlib.Core.List.{List, [], _∷_, _++_, map}
-use mathlib.Core.Logic.{_⊎_, inl, inr}
+use mathlib.Core.List.{List, [], _∷_, map}
+use mathlib.Core.Logic.{inl, inr}
 use Prim.Native.Nat.{ℕ, zero, suc, _+_, _<_, _≤_, max}
 use native.Mathlib.Omega.{arith}
-use lib.Dec.{eqb, ltb}
+use lib.Dec.{eqb}
 use lib.ListN.{length, getD}
-use Rattle.std.proofs.shelf.Lists.{getD-map, length-map}
-use Rattle.std.proofs.shelf.Tests.{eqb-true, eqb-false, eq-eqb, ne-eqb, ltb-true, lt-ltb, cases-lt, cases-eq, and-parts, and-from, cond-both}
-use Rattle.screen.specs.Forest.{Forest, bare, tree, _⊕_, same}
+use Rattle.std.proofs.shelf.Lists.{length-map}
+use Rattle.std.proofs.shelf.Tests.{eqb-true, eq-eqb, ne-eqb, ltb-true, lt-ltb, cases-lt, and-parts, and-from, cond-both}
+use Rattle.screen.specs.Forest.{Forest, tree, _⊕_, same}
 use Rattle.screen.specs.Lists.{every, member, distinct, gathered}
 use Rattle.screen.specs.Entries.{order}
 use Rattle.screen.specs.Rules.{Meaning}
@@ -18,21 +18,19 @@ use Rattle.screen.specs.Statuses.{isStanding, isJoined}
 use Rattle.screen.specs.Standing.{openings}
 use Rattle.screen.specs.Refused.{statuses}
 use Rattle.screen.specs.WellFormed.{WellFormed, ScopesKept, spansTo}
-use Rattle.screen.specs.Found.{Found, foundOf, noScope, scopeAt}
-use Rattle.screen.specs.Course.{Course, Join, put, start, joinedIn, mergedInto, statusAfter, scopeAfter, scopesFrom}
+use Rattle.screen.specs.Found.{Found, noScope, scopeAt}
+use Rattle.screen.specs.Course.{Course, Join, put, start, joinedIn, mergedInto, scopesFrom}
 use Rattle.screen.specs.Joining.{usedBefore, setRow, setRows, unless, join}
 use Rattle.screen.specs.declared.node.Node.{Node}
 use Rattle.screen.specs.declared.node.Node.the-variants as node
-use Rattle.screen.specs.declared.scope.Status.{Status}
 use Rattle.screen.specs.declared.scope.Status.the-variants as status
-use Rattle.screen.proofs.Counts.{same-self, same-other}
+use Rattle.screen.proofs.Counts.{same-self}
 use Rattle.screen.proofs.Grown.{openings-join}
 use Rattle.screen.proofs.Times.{times, times-append, times-none, member-times, member-is, distinct-times, times-distinct, below-times, times-below, total, total-plus, total-zero, total-one}
-use Rattle.screen.proofs.Weights.{gone, turns-gone, turns-kept}
-use Rattle.screen.proofs.MergeSteps.{Alike}
+use Rattle.screen.proofs.Weights.{turns-gone, turns-kept}
 use Rattle.screen.proofs.MergeTurns.{Turns, none, then, below, behind, flat, takes}
 use Rattle.screen.proofs.Fates.{fate-of, fate-joined, out, turned, none-past, joined-past, status-at, scopes-at, scope-after, length-after}
-use Rattle.screen.proofs.MergeStanding.{status-after, length-statuses}
+use Rattle.screen.proofs.MergeStanding.{status-after}
 
 -- the larger of two orders is one
 order-max : (a b : ℕ) → order a ≡ true → order b ≡ true → order (max a b) ≡ true

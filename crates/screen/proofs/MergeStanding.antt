@@ -1,14 +1,14 @@
 -- What is true of a sheet's tree is true of it after a Merge.
 use mathlib.Core.Path.{_≡_, refl, sym, _∙_, ap, subst}
 use mathlib.Core.Bool.{Bool, true, false, cond}
-use mathlib.Core.List.{List, map}
-use mathlib.Core.Logic.{_⊎_, inl, inr}
+use mathlib.Core.List.{List}
+use mathlib.Core.Logic.{inl, inr}
 use Prim.Native.Nat.{ℕ, _+_, _<_, _≤_}
 use native.Mathlib.Omega.{arith}
 use lib.Dec.{eqb}
 use lib.ListN.{length, getD}
 use Rattle.std.proofs.shelf.Lists.{getD-map, length-map, getD-past}
-use Rattle.std.proofs.shelf.Tests.{eqb-true, eqb-false, cases-lt, cases-eq}
+use Rattle.std.proofs.shelf.Tests.{eqb-true, cases-lt, cases-eq}
 use Rattle.screen.specs.Forest.{Forest, bare, tree, same, cnt, body}
 use Rattle.screen.specs.Open.{opens}
 use Rattle.screen.specs.Rules.{Meaning}
@@ -19,7 +19,6 @@ use Rattle.screen.specs.Refused.{statuses}
 use Rattle.screen.specs.WellFormed.{WellFormed}
 use Rattle.screen.specs.Found.{noScope, scopeAt}
 use Rattle.screen.specs.Course.{statusAfter, scopesFrom}
-use Rattle.screen.specs.Merge.{mergeOf}
 use Rattle.screen.specs.declared.node.Node.{Node}
 use Rattle.screen.specs.declared.node.Node.the-variants as node
 use Rattle.screen.specs.declared.scope.Status.{Status}

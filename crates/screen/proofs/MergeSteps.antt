@@ -1,15 +1,14 @@
 -- What one statement of a scan does: it is passed on, or the keeper takes a Scope.
-use mathlib.Core.Path.{_≡_, refl, sym, _∙_, ap}
-use mathlib.Core.List.{List, [], _∷_, _++_}
+use mathlib.Core.Path.{_≡_, refl, ap}
+use mathlib.Core.List.{List}
 use mathlib.Core.Bool.{Bool, true, false}
 use mathlib.Core.Logic.{_⊎_, inl, inr}
-use Prim.Native.Nat.{ℕ, _+_}
-use Rattle.std.specs.declared.option.Option.{Option}
+use Prim.Native.Nat.{ℕ}
 use Rattle.screen.specs.Forest.{Forest, bare, tree, _⊕_, isAdd}
 use Rattle.screen.specs.Found.{Found}
 use Rattle.screen.specs.Course.{Course}
 use Rattle.screen.specs.Joining.{eligible, joinsTo, join}
-use Rattle.screen.specs.Scan.{lone, Run, idle, open-run, close, Step, step, stepIdle, stepOpen, Effect, goes, stops, act, meet, begin, more, effect, targetOf}
+use Rattle.screen.specs.Scan.{lone, Run, idle, open-run, close, Step, step, Effect, goes, stops, act, meet, begin, more, effect, targetOf}
 use Rattle.screen.specs.declared.node.Node.{Node}
 use Rattle.screen.specs.declared.node.Node.the-variants.{Body, Add, Terminal, Arm, Scope, Pruned}
 

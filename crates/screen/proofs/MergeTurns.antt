@@ -1,20 +1,19 @@
 -- What a Merge does to a forest, one turn after another: a Scope is flattened, or a keeper takes the Scope behind it and the instructions between.
-use mathlib.Core.Path.{_≡_, refl, sym, _∙_, ap, subst}
-use mathlib.Core.List.{List, [], _∷_, _++_}
+use mathlib.Core.Path.{_≡_, sym, subst}
 use mathlib.Core.Bool.{Bool, true, false}
-use mathlib.Core.Logic.{_⊎_, inl, inr}
-use Prim.Native.Nat.{ℕ, _+_, _≤_}
+use mathlib.Core.Logic.{inl, inr}
+use Prim.Native.Nat.{ℕ}
 use Rattle.std.specs.declared.option.Option.{Option}
-use Rattle.std.specs.declared.option.Option.the-variants.{Some, None}
+use Rattle.std.specs.declared.option.Option.the-variants.{None}
 use Rattle.screen.specs.Forest.{Forest, bare, tree, _⊕_}
 use Rattle.screen.specs.Found.{Found}
 use Rattle.screen.specs.Course.{Course}
 use Rattle.screen.specs.Joining.{join}
-use Rattle.screen.specs.Scan.{lone, Run, idle, open-run, close, Step, step, Out, scan}
+use Rattle.screen.specs.Scan.{Run, idle, open-run, close, Step, step, Out, scan}
 use Rattle.screen.specs.Merge.{under, flattens, flattened, settle, work, merge}
 use Rattle.screen.specs.declared.node.Node.{Node}
 use Rattle.screen.specs.declared.node.Node.the-variants.{Body, Add, Terminal, Arm, Scope, Pruned}
-use Rattle.screen.proofs.MergeSteps.{⊕-assoc, flush, Alike, alike-refl, Passed, Took, view-idle, view-open, Adds, Waits, step-waits}
+use Rattle.screen.proofs.MergeSteps.{flush, Alike, alike-refl, view-idle, view-open, Adds, Waits, step-waits}
 
 -- from a forest and a course to those afterwards
 pub data Turns (E : Found) : Forest → Course → Forest → Course → Type 0 where

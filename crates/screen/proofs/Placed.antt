@@ -1,11 +1,11 @@
 -- Each node of a forest is the sheet's, has a holder that can hold it, and lies not too deep; turns of a Merge keep it so.
-use mathlib.Core.Path.{_≡_, refl, sym, ap, subst}
-use mathlib.Core.Bool.{Bool, true, false, not, _&&_}
+use mathlib.Core.Path.{_≡_, refl}
+use mathlib.Core.Bool.{true, _&&_}
 use mathlib.Core.List.{List}
 use Prim.Native.Nat.{ℕ, zero, suc, _<_}
 use lib.ListN.{length, getD}
 use Rattle.std.proofs.shelf.Tests.{false≢true, and-parts, and-from}
-use Rattle.screen.specs.Forest.{Forest, bare, tree, _⊕_, isAdd, isArm, canHold, held, shallow}
+use Rattle.screen.specs.Forest.{Forest, bare, tree, _⊕_, isAdd, canHold, held, shallow}
 use Rattle.screen.specs.Standing.{Labelled}
 use Rattle.screen.specs.Found.{Found}
 use Rattle.screen.specs.Course.{Course}

@@ -1,11 +1,10 @@
 -- How a worked sibling list stands to the list found: each Scope of it stands for itself and what it took since, up to a Scope that joined it.
 -- Here G says of a Scope that joins in the end, with the targets since the Scope before, what is known of it, and R what is known of a Scope that has taken nothing.
-use mathlib.Core.Path.{_≡_, refl, sym, _∙_, ap}
+use mathlib.Core.Path.{_≡_, refl, ap}
 use mathlib.Core.List.{List, []}
-use Prim.Native.Nat.{ℕ, _+_, _<_}
+use Prim.Native.Nat.{ℕ, _<_}
 use native.Mathlib.Omega.{arith}
-use Rattle.std.specs.declared.option.Option.{Option}
-use Rattle.std.specs.declared.option.Option.the-variants.{Some, None}
+use Rattle.std.specs.declared.option.Option.the-variants.{None}
 use Rattle.screen.specs.Forest.{Forest, bare, tree, _⊕_}
 use Rattle.screen.specs.Standing.{opening, openings}
 use Rattle.screen.specs.Found.{Found}

@@ -1,7 +1,7 @@
 -- Neighbours in the tree found, with the flattened Scopes replaced by their children: of two that should join one does, and the targets before a joined Scope end in time.
 use mathlib.Core.Path.{_≡_, refl, sym, _∙_, ap, subst}
 use mathlib.Core.List.{List, [], _∷_}
-use mathlib.Core.Bool.{Bool, true, false, not, _&&_, _||_}
+use mathlib.Core.Bool.{Bool, true, false, _||_}
 use mathlib.Core.Logic.{_⊎_, inl, inr}
 use Prim.Native.Nat.{ℕ, _+_, _≤_, _<_}
 use native.Mathlib.Omega.{arith}
@@ -13,7 +13,7 @@ use Rattle.screen.specs.Standing.{opening, openings}
 use Rattle.screen.specs.Found.{Found}
 use Rattle.screen.specs.Course.{Course, Join, joinedIn}
 use Rattle.screen.specs.Joining.{isNil, anyLasts, eligible, joinsTo, join}
-use Rattle.screen.specs.Scan.{lone, Run, idle, open-run, close, Step, step, stepIdle, stepOpen, begin, more, meet, Out, scan}
+use Rattle.screen.specs.Scan.{lone, Run, idle, open-run, close, Step, step, stepOpen, begin, more, meet, Out, scan}
 use Rattle.screen.specs.Merge.{under, flattens, settle, work, merge}
 use Rattle.screen.specs.Neighbours.{scopeIn, unwrap, added, UsedBefore}
 use Rattle.screen.specs.declared.node.Node.{Node}

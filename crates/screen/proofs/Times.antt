@@ -1,13 +1,13 @@
 -- How often a number stands in a list, and sums over a stretch of numbers.
-use mathlib.Core.Path.{_≡_, refl, sym, _∙_, ap, subst}
-use mathlib.Core.Bool.{Bool, true, false, cond, not, _&&_, _||_}
+use mathlib.Core.Path.{_≡_, refl, sym, ap}
+use mathlib.Core.Bool.{Bool, true, false, cond, not}
 use mathlib.Core.List.{List, [], _∷_, _++_}
-use mathlib.Core.Logic.{_⊎_, inl, inr}
+use mathlib.Core.Logic.{inl, inr}
 use Prim.Native.Nat.{ℕ, zero, suc, _+_, _<_, _≤_}
 use native.Mathlib.Omega.{arith}
 use lib.Dec.{eqb, ltb}
 use lib.ListN.{length}
-use Rattle.std.proofs.shelf.Tests.{eqb-true, eqb-false, ltb-true, lt-ltb, or-parts, or-from, and-parts, and-from, not-true, not-from-false, cases-eq, cases-lt, cases-bool, or-left, or-right, or-cases, ne-eqb}
+use Rattle.std.proofs.shelf.Tests.{eqb-true, eqb-false, ltb-true, lt-ltb, or-parts, and-parts, and-from, not-true, not-from-false, cases-eq, cases-lt, or-cases}
 use Rattle.screen.specs.Forest.{same}
 use Rattle.screen.specs.Lists.{every, member, distinct}
 use Rattle.screen.proofs.Counts.{same-self, same-other}

@@ -1,10 +1,9 @@
 -- What nodes weigh together, by any weight of a node and its number, and what turns leave of it.
-use mathlib.Core.Path.{_≡_, refl, sym, _∙_, ap}
-use mathlib.Core.List.{List}
+use mathlib.Core.Path.{_≡_, refl}
 use Prim.Native.Nat.{ℕ, _+_, _≤_}
 use native.Mathlib.Omega.{arith}
 use Rattle.screen.specs.Forest.{Forest, bare, tree, _⊕_}
-use Rattle.screen.specs.Standing.{opening, openings}
+use Rattle.screen.specs.Standing.{openings}
 use Rattle.screen.specs.Found.{Found}
 use Rattle.screen.specs.Course.{Course, joinedIn}
 use Rattle.screen.specs.declared.node.Node.{Node}

@@ -6,8 +6,8 @@ use lib.Dec.{eqb, ltb}
 use Rattle.std.specs.declared.option.Option.{Option}
 use Rattle.std.specs.declared.option.Option.the-variants.{Some, None}
 use Rattle.screen.specs.Rules.{Dep}
-use Rattle.screen.specs.Found.{Found, Need, Declared}
-use Rattle.screen.specs.Course.{Course, Join, put}
+use Rattle.screen.specs.Found.{Found, Need}
+use Rattle.screen.specs.Course.{Course, put}
 
 abbrev pub isNil : {A : Type 0} → List A → Bool
 isNil [] = true

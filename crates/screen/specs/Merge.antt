@@ -1,11 +1,11 @@
 -- What a Merge makes of a sheet.
 use mathlib.Core.Bool.{Bool, true, false}
-use mathlib.Core.List.{List, [], _∷_}
+use mathlib.Core.List.{List, _∷_}
 use Prim.Native.Nat.{ℕ}
 use lib.ListN.{length}
 use Rattle.std.specs.declared.option.Option.{Option}
 use Rattle.std.specs.declared.option.Option.the-variants.{Some, None}
-use Rattle.screen.specs.Forest.{Forest, bare, tree, _⊕_}
+use Rattle.screen.specs.Forest.{Forest, bare, tree}
 use Rattle.screen.specs.Rules.{Meaning}
 use Rattle.screen.specs.State.{State}
 use Rattle.screen.specs.Found.{Found, foundOf}

@@ -20,7 +20,6 @@ use Rattle.screen.specs.Joining.{eligible}
 use Rattle.screen.specs.Neighbours.{without, Beside, Behind, UsedBefore}
 use Rattle.screen.specs.Merge.{Merged, mergeOf, under}
 use Rattle.screen.specs.WellFormed.{WellFormed}
-use Rattle.screen.specs.declared.node.Node.{Node}
 use Rattle.screen.specs.declared.node.Node.the-variants as node
 use Rattle.screen.specs.declared.scope.Status.{Status}
 use Rattle.screen.specs.declared.scope.Status.the-variants as status

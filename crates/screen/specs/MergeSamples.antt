@@ -12,7 +12,7 @@ use Rattle.screen.specs.Lists.{every}
 use Rattle.screen.specs.Rules.{Dep, Meaning}
 use Rattle.screen.specs.ListRule.{listMeaning, bothWaysMeaning}
 use Rattle.screen.specs.Step.{step, listing}
-use Rattle.screen.specs.Merge.{Merged, mergeOf}
+use Rattle.screen.specs.Merge.{mergeOf}
 use Rattle.screen.specs.declared.answer.Answer.{Answer}
 use Rattle.screen.specs.declared.answer.Refusal.{Refusal}
 use Rattle.screen.specs.declared.answer.Line.{Line}
