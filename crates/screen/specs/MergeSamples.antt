@@ -9,7 +9,9 @@ use Rattle.std.specs.declared.result.Result.the-variants.{Ok, Err}
 use Rattle.block.specs.declared.record.Record.{Record}
 use Rattle.screen.specs.State.{State, new}
 use Rattle.screen.specs.Lists.{every}
+use Rattle.screen.specs.Statuses.{isJoined}
 use Rattle.screen.specs.Rules.{Dep, Meaning}
+use Rattle.screen.specs.Found.{scopeAt}
 use Rattle.screen.specs.ListRule.{listMeaning, bothWaysMeaning}
 use Rattle.screen.specs.Step.{step, listing}
 use Rattle.screen.specs.Merge.{mergeOf}
@@ -47,6 +49,10 @@ read i = made 8 0 0 i 0 0
 abbrev pub loadLocal : ℕ → Record
 loadLocal k = made 9 5 1 k none 0
 
+-- a StoreLocal of kind Const: its read, and what it stores to
+abbrev pub storeConst : ℕ → ℕ → Record
+storeConst k i = made 9 10 1 k i 0
+
 abbrev pub sequence : ℕ → ℕ → Record
 sequence order value = made 9 14 0 order value none
 
@@ -55,6 +61,13 @@ add order value target = made 10 0 0 order value target
 
 abbrev pub enter : ℕ → Record
 enter k = made 11 2 0 k 0 0
+
+-- a terminal with no value, and its block
+abbrev pub terminal : Record
+terminal = made 11 0 0 1 none 0
+
+abbrev pub arm : Record
+arm = made 11 1 0 0 0 0
 
 abbrev pub leave : Record
 leave = made 12 0 0 0 0 0
@@ -84,6 +97,11 @@ sequenced order =
 -- a Scope [x] that declares i and j, and a Scope [i]
 abbrev pub feeding : ℕ → ℕ → List Record
 feeding i j = names ++ ((scope 1 5 ∷ dependency 0 ∷ declaration i ∷ declaration j ∷ scope 5 9 ∷ dependency i ∷ []) ++ (empty 0 ++ empty 1))
+
+-- a Scope [x] that declares 3, instructions, and a Scope [i]
+abbrev pub sourced : ℕ → List Record → List Record
+sourced i middle =
+    names ++ ((scope 1 5 ∷ dependency 0 ∷ declaration 3 ∷ scope 6 9 ∷ dependency i ∷ read 3 ∷ read 4 ∷ loadLocal 0 ∷ storeConst 1 5 ∷ []) ++ (empty 0 ++ (middle ++ empty 1)))
 
 -- three Scopes [x]: the first and the last declare a lasting type, the second has these parts
 abbrev pub three : List Record → List Record
@@ -123,6 +141,14 @@ samples =
     -- an Object of a host's shape is lasting once that shape is put
     ∷ sample listMeaning 0 0 (feeding 7 4)
     ∷ sample listMeaning 1 0 (ownShape 9 ∷ feeding 7 4)
+    -- fed through a load's source, and through a store's, but not by what no instruction loaded
+    ∷ sample listMeaning 1 0 (sourced 4 (add 5 0 4 ∷ []))
+    ∷ sample listMeaning 1 0 (sourced 5 (add 5 0 4 ∷ add 6 1 none ∷ []))
+    ∷ sample listMeaning 0 0 (sourced 4 [])
+    -- a source noted in a terminal's block serves behind it
+    ∷ sample listMeaning 1 0
+      (names ++ ((scope 1 2 ∷ scope 4 6 ∷ dependency 0 ∷ declaration 3 ∷ scope 6 9 ∷ dependency 4 ∷ read 3 ∷ loadLocal 0
+        ∷ terminal ∷ arm ∷ enter 0 ∷ leave ∷ add 2 0 4 ∷ leave ∷ leave ∷ []) ++ (empty 1 ++ empty 2)))
     -- the second declares nothing, so it joins and ends the run
     ∷ sample listMeaning 1 0 (three [])
     -- the second declares a lasting type: it is asked before its declarations move, and the run goes on
@@ -180,6 +206,26 @@ two-pass =
     let o = mergeOf listMeaning (built new two) in
     allTaken new two && eqb (o .joined) 1 && eqb (o .flattened) 0 && only 1 83 1 0 5 (listing (o .sheet))
 
+-- two Scopes [x]: the first declares 3 and 4, the second 5 under the key 4, and 6; 3 is last used at 7, before the new end at 9
+abbrev pub moving : List Record
+moving =
+    names ++ ((scope 1 5 ∷ dependency 0 ∷ declaration 3 ∷ declaration 4 ∷ scope 5 9 ∷ dependency 0 ∷ made 6 0 0 4 5 0 ∷ declaration 6 ∷ read 3 ∷ loadLocal 0 ∷ [])
+    ++ (empty 0 ++ (enter 1 ∷ add 7 0 none ∷ leave ∷ [])))
+
+abbrev pub numbers : List ℕ → List ℕ → Bool
+numbers [] [] = true
+numbers [] (y ∷ ys) = false
+numbers (x ∷ xs) [] = false
+numbers (x ∷ xs) (y ∷ ys) = eqb x y && numbers xs ys
+
+-- row 2 overwrites row 1, row 3 is appended and row 0 dropped; the second Scope keeps none, and is in the first one's merged list
+abbrev pub moving-pass : Bool
+moving-pass =
+    let o = mergeOf listMeaning (built new moving) in
+    let first = scopeAt (o .sheet) 0 in
+    let second = scopeAt (o .sheet) 1 in
+    allTaken new moving && numbers (first .declares) (2 ∷ 3 ∷ []) && numbers (second .declares) [] && numbers (first .merged) (1 ∷ []) && isJoined (second .status) && eqb (first .end) 9
+
 -- every sample answers as it should
 abbrev pub Samples-hold : Type 0
-Samples-hold = (every passes samples && lists-pass && two-pass) ≡ true
+Samples-hold = (every passes samples && lists-pass && two-pass && moving-pass) ≡ true
