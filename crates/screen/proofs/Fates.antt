@@ -82,13 +82,14 @@ scopes-at c i [] k l = absurd (omega arith)
 scopes-at c i (s ∷ ss) zero l = ap (λ n. scopeAfter c n s) (omega arith)
 scopes-at c i (s ∷ ss) (suc k) l = scopes-at c (i + 1) ss k (omega arith) ∙ ap (λ n. scopeAfter c n (getD ss k noScope)) (omega arith)
 
+-- the fate of Scope k, which stood as s, where O says how often each Scope is in the tree afterwards
+abbrev pub FateAt : Course → (ℕ → ℕ) → ℕ → Status → Type 0
+FateAt c O k s = Fate (times k (joinedIn (c .joins))) (times k (c .flats)) (O k) s (statusAfter c k s)
+
 -- the fates of the Scopes from number i on
 abbrev Fates : Course → (ℕ → ℕ) → ℕ → List Scope → Type 0
 Fates c O i [] = Unit {0}
-Fates c O i (s ∷ ss) = Fate (times i (joinedIn (c .joins))) (times i (c .flats)) (O i) (s .status) (statusAfter c i (s .status)) × Fates c O (i + 1) ss
-
-abbrev FateAt : Course → (ℕ → ℕ) → ℕ → Status → Type 0
-FateAt c O k s = Fate (times k (joinedIn (c .joins))) (times k (c .flats)) (O k) s (statusAfter c k s)
+Fates c O i (s ∷ ss) = FateAt c O i (s .status) × Fates c O (i + 1) ss
 
 fates-from : (c : Course) (O : ℕ → ℕ) (i : ℕ) (ss : List Scope) → ((k : ℕ) → k < length ss → FateAt c O (i + k) (getD ss k noScope .status)) → Fates c O i ss
 fates-from c O i [] h = tt

@@ -1,14 +1,14 @@
 -- A Merge flattens a Scope exactly when the rule calls the nearest Scope above and it the same, as found.
 use mathlib.Core.Path.{_≡_, refl, sym, _∙_, ap, subst}
-use mathlib.Core.List.{List, [], _∷_}
+use mathlib.Core.List.{List, []}
 use mathlib.Core.Bool.{Bool, true, false}
 use mathlib.Core.Logic.{_⊎_, inl, inr}
 use Prim.Native.Nat.{ℕ, _<_}
 use native.Mathlib.Omega.{arith}
 use Rattle.std.specs.declared.option.Option.{Option}
 use Rattle.std.specs.declared.option.Option.the-variants.{Some, None}
-use Rattle.std.proofs.shelf.Tests.{false≢true, cases-eq}
-use Rattle.screen.specs.Forest.{Forest, bare, tree, same}
+use Rattle.std.proofs.shelf.Tests.{false≢true}
+use Rattle.screen.specs.Forest.{Forest, bare, tree}
 use Rattle.screen.specs.Found.{Found, foundOf}
 use Rattle.screen.specs.Course.{Course, start}
 use Rattle.screen.specs.Scan.{Run, idle, open-run, step, Out, scan}
@@ -18,27 +18,9 @@ use Rattle.screen.specs.declared.node.Node.{Node}
 use Rattle.screen.specs.declared.node.Node.the-variants.{Body, Add, Terminal, Arm, Scope, Pruned}
 use Rattle.screen.specs.declared.scope.Status.{Status}
 use Rattle.screen.specs.declared.scope.Status.the-variants as status
-use Rattle.screen.proofs.Counts.{same-self, same-other}
-use Rattle.screen.proofs.Times.{times}
+use Rattle.screen.proofs.Times.{In, in-times, times-in}
 use Rattle.screen.proofs.Fates.{Fate, as-it-was, joined, flattened, out, fate-of, scope-after}
 use Rattle.screen.proofs.MergeSteps.{view-idle, view-open}
-
-abbrev pub In : ℕ → List ℕ → Type 0
-In s [] = ⊥
-In s (x ∷ xs) = (x ≡ s) ⊎ In s xs
-
-pub in-times : (k : ℕ) (xs : List ℕ) → In k xs → 0 < times k xs
-in-times k [] h = absurd h
-in-times k (x ∷ xs) (inl e) = omega (arith, ap (same k) e, same-self k)
-in-times k (x ∷ xs) (inr h) = omega (arith, in-times k xs h)
-
-pub times-in : (k : ℕ) (xs : List ℕ) → 0 < times k xs → In k xs
-times-in k [] h = absurd (omega arith)
-times-in k (x ∷ xs) h =
-    elim (cases-eq x k) [
-      inl e ↦ inl e
-    | inr e ↦ inr (times-in k xs (omega (arith, same-other k x (λ q. e (sym q)))))
-    ]
 
 -- this node opened Scope s, and the rule calls the nearest Scope above and s the same
 abbrev pub FlatHere : Found → Option ℕ → ℕ → Node → Type 0

@@ -1,7 +1,6 @@
 -- What turns of a Merge leave alone, and what only grows.
 use mathlib.Core.Path.{_≡_, refl, _∙_, ap}
 use mathlib.Core.List.{List, [], _∷_}
-use mathlib.Core.Bool.{false}
 use mathlib.Core.Logic.{_⊎_, inl, inr}
 use Prim.Native.Nat.{ℕ, _+_, _≤_, max}
 use native.Mathlib.Omega.{arith}
@@ -15,7 +14,7 @@ use Rattle.screen.specs.Joining.{join}
 use Rattle.screen.specs.Scan.{Run, idle, open-run, close, step, scan}
 use Rattle.screen.specs.declared.node.Node.{Node}
 use Rattle.screen.specs.declared.node.Node.the-variants.{Scope}
-use Rattle.screen.proofs.Counts.{same-self}
+use Rattle.screen.proofs.Counts.{apart}
 use Rattle.screen.proofs.Grown.{openings-join}
 use Rattle.screen.proofs.Weights.{turns-gone, turns-kept}
 use Rattle.screen.proofs.MergeSteps.{flush, view-idle, view-open, Waits}
@@ -56,9 +55,6 @@ turns-later (behind t) = turns-later t
 turns-later flat = record { joins = λ k b h. h; ends = λ k. omega arith }
 turns-later {E} (takes {k} {a} p m b d w) = join-later E k b a
 
-apart : (a k : ℕ) → same a k ≡ 0 → eqb a k ≡ false
-apart a k h = ne-eqb a k (λ e. omega (arith, same-self k, ap (λ i. same i k) e))
-
 -- the declarations of a Scope that is not there
 pub turns-else : {E : Found} {f g : Forest} {a b : Course} (s : ℕ) → Turns E f a g b → openings s f ≡ 0 → b .declares s ≡ a .declares s
 turns-else s (none e) h = ap (λ r. r s) (e .declares)
@@ -68,7 +64,7 @@ turns-else s (behind t) h = turns-else s t (omega arith)
 turns-else s flat h = refl
 turns-else s (takes {k} {s = l} p m b d w) h =
     let o = openings-join s p (tree m (Scope b) d l) in
-    rw (apart s b (omega arith), apart s k (omega arith)) refl
+    rw (ne-eqb s b (apart s b (omega arith)), ne-eqb s k (apart s k (omega arith))) refl
 
 -- a Scope is once in what follows a run, so it was not in the run
 pub close-openings : (k : ℕ) (r : Run) (y : Forest) → openings k (close r y) ≡ openings k (close r bare) + openings k y

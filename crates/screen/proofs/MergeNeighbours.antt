@@ -10,7 +10,7 @@ use lib.ListN.{length, getD}
 use Rattle.std.specs.declared.option.Option.{Option}
 use Rattle.std.specs.declared.option.Option.the-variants.{Some, None}
 use Rattle.std.proofs.shelf.Lists.{getD-past, length-map}
-use Rattle.std.proofs.shelf.Tests.{cases-lt, false≢true, both-ways, or-cases, or-left, or-right, eqb-true, cases-eq}
+use Rattle.std.proofs.shelf.Tests.{cases-lt, false≢true, both-ways, or-cases, or-left, or-right, eqb-true}
 use Rattle.screen.specs.Forest.{Forest, bare, tree, _⊕_}
 use Rattle.screen.specs.Lists.{member, gathered}
 use Rattle.screen.specs.LastUse.{lastUse}
@@ -28,16 +28,16 @@ use Rattle.screen.specs.declared.node.Node.{Node}
 use Rattle.screen.specs.declared.node.Node.the-variants as node
 use Rattle.screen.specs.declared.scope.Status.{Status}
 use Rattle.screen.specs.declared.scope.Status.the-variants as status
-use Rattle.screen.proofs.Counts.{same-self, same-other}
+use Rattle.screen.proofs.Counts.{same-self}
 use Rattle.screen.proofs.Members.{member-append}
-use Rattle.screen.proofs.Times.{times}
+use Rattle.screen.proofs.Times.{in-times, times-in}
 use Rattle.screen.proofs.Fates.{Fate, as-it-was, joined, flattened, out, fate-of, scope-after, length-after, none-past, status-at}
-use Rattle.screen.proofs.MergeFlats.{in-times, times-in, FlatHere, FlatAt, flats-in, flats-have, flat-fate}
+use Rattle.screen.proofs.MergeFlats.{FlatHere, FlatAt, flats-in, flats-have, flat-fate}
 use Rattle.screen.proofs.MergeFrames.{By}
 use Rattle.screen.proofs.MergeScopes.{sound}
 use Rattle.screen.proofs.Segments.{Stands, stands-here}
 use Rattle.screen.proofs.MergeRuns.{Once}
-use Rattle.screen.proofs.Sides.{JoinedIn, joined-by, joined-times, Good, Meets, Pairs, since, GapAt, Gaps, spliced, Law, sides, targets}
+use Rattle.screen.proofs.Sides.{JoinedIn, joined-by, Good, Meets, Pairs, since, GapAt, Gaps, spliced, Law, sides, targets}
 
 -- what holds of all pairs holds of these two
 beside-pair : (P : ℕ → ℕ → Type 0) (prev : Option ℕ) (a b : ℕ) (f : Forest) → Pairs P prev f → Beside a b f → P a b
@@ -64,18 +64,18 @@ behind-gap E P o b ts (tree n x c s) h (inr (inl g)) = behind-gap E P None b ts 
 behind-gap E P o b ts (tree n x c s) h (inr (inr g)) = behind-gap E P (since E (scopeIn x) x o) b ts s (h .2) g
 
 -- a Scope that is to be flattened is there
-here-stands : (E : Found) (p : Option ℕ) (s n : ℕ) (x : Node) (c t : Forest) → FlatHere E p s x → x ≡ node.Scope s
-here-stands E p s n node.Body c t h = absurd h
-here-stands E p s n (node.Add o v u) c t h = absurd h
-here-stands E p s n (node.Terminal k o v) c t h = absurd h
-here-stands E p s n node.Arm c t h = absurd h
-here-stands E p s n (node.Pruned a) c t h = absurd h
-here-stands E None s n (node.Scope a) c t h = absurd h
-here-stands E (Some q) s n (node.Scope a) c t h = ap node.Scope (h .0)
+here-stands : (E : Found) (p : Option ℕ) (s : ℕ) (x : Node) → FlatHere E p s x → x ≡ node.Scope s
+here-stands E p s node.Body h = absurd h
+here-stands E p s (node.Add o v u) h = absurd h
+here-stands E p s (node.Terminal k o v) h = absurd h
+here-stands E p s node.Arm h = absurd h
+here-stands E p s (node.Pruned a) h = absurd h
+here-stands E None s (node.Scope a) h = absurd h
+here-stands E (Some q) s (node.Scope a) h = ap node.Scope (h .0)
 
 flat-stands : (E : Found) (p : Option ℕ) (s : ℕ) (f : Forest) → FlatAt E p s f → Stands f s
 flat-stands E p s bare h = absurd h
-flat-stands E p s (tree n x c t) (inl h) = stands-here n x s c t (here-stands E p s n x c t h)
+flat-stands E p s (tree n x c t) (inl h) = stands-here n x s c t (here-stands E p s x h)
 flat-stands E p s (tree n x c t) (inr (inl h)) = let z = flat-stands E (under x p) s c h in omega arith
 flat-stands E p s (tree n x c t) (inr (inr h)) = let z = flat-stands E p s t h in omega arith
 
@@ -97,14 +97,14 @@ module _ (E : Found) (q : ℕ → Bool) (p : Option ℕ) (n : ℕ) (x : Node) (c
   only-below : (s : ℕ) → Stands c s → q s ≡ true → FlatAt E (under x p) s c
   only-below s g h =
       elim (only s (omega arith) h) [
-        inl a ↦ absurd (let o : opening s x ≡ 1 = ap (opening s) (here-stands E p s n x c t a) ∙ same-self s in omega (arith, once s))
+        inl a ↦ absurd (let o : opening s x ≡ 1 = ap (opening s) (here-stands E p s x a) ∙ same-self s in omega (arith, once s))
       | inr a ↦ elim a [ inl b ↦ b | inr b ↦ absurd (omega (arith, once s, flat-stands E p s t b)) ]
       ]
 
   only-behind : (s : ℕ) → Stands t s → q s ≡ true → FlatAt E p s t
   only-behind s g h =
       elim (only s (omega arith) h) [
-        inl a ↦ absurd (let o : opening s x ≡ 1 = ap (opening s) (here-stands E p s n x c t a) ∙ same-self s in omega (arith, once s))
+        inl a ↦ absurd (let o : opening s x ≡ 1 = ap (opening s) (here-stands E p s x a) ∙ same-self s in omega (arith, once s))
       | inr a ↦ elim a [ inl b ↦ absurd (omega (arith, once s, flat-stands E (under x p) s c b)) | inr b ↦ b ]
       ]
 
@@ -154,14 +154,6 @@ fate-joins : {J G O : ℕ} {s t : Status} → Fate J G O s t → s ≡ status.St
 fate-joins (as-it-was a b c) e f = absurd (let z : _≡_ {A = ℕ} 0 1 = cc in omega arith)
 fate-joins (joined a b c) e f = omega arith
 fate-joins (flattened a b c) e f = absurd (let z : _≡_ {A = ℕ} 0 1 = cc in omega arith)
-
-times-joined : (b : ℕ) (js : List Join) → 0 < times b (joinedIn js) → JoinedIn b js
-times-joined b [] h = absurd (omega arith)
-times-joined b (j ∷ js) h =
-    elim (cases-eq (j .joined) b) [
-      inl e ↦ inl e
-    | inr e ↦ inr (times-joined b js (omega (arith, same-other b (j .joined) (λ q. e (sym q)))))
-    ]
 
 -- who is in the list of those that joined k was joined by k
 into-by : (k b : ℕ) (js : List Join) → member b (mergedInto k js) ≡ true → By k b js
@@ -221,7 +213,7 @@ module _ (m : Meaning) (σ : State) (h : WellFormed σ) where
   joined-no-more : (b : ℕ) → JoinedIn b (F .joins) → scopeAt (mergeOf m σ .sheet) b .status ≡ status.Standing → ⊥
   joined-no-more b j e =
       let l = put-after b status.Standing e (λ q. let z : _≡_ {A = ℕ} 0 1 = cc in omega arith) in
-      let z = joined-fate (fate-of m σ h b l) (joined-times b (F .joins) j) .1 in
+      let z = joined-fate (fate-of m σ h b l) (in-times b (joinedIn (F .joins)) j) .1 in
       let y : status.Joined ≡ status.Standing = sym z ∙ sym (ap (λ t. t .status) (scope-after m σ h b l)) ∙ e in
       let w : _≡_ {A = ℕ} 0 1 = cc in omega arith
 
@@ -257,7 +249,7 @@ module _ (m : Meaning) (σ : State) (h : WellFormed σ) where
     × ((k : ℕ) → member b (scopeAt (mergeOf m σ .sheet) k .merged) ≡ true → UsedBefore (lastUse σ) (scopeAt (mergeOf m σ .sheet) k .end) ts)
   used b ts g j =
       let l = put-before b status.Standing (j .0) (λ q. let z : _≡_ {A = ℕ} 0 1 = cc in omega arith) in
-      let z = joined-by b (F .joins) (times-joined b (F .joins) (fate-joins (fate-of m σ h b l) (j .0) (sym (ap (λ s. s .status) (scope-after m σ h b l)) ∙ j .1))) in
+      let z = joined-by b (F .joins) (times-in b (joinedIn (F .joins)) (fate-joins (fate-of m σ h b l) (j .0) (sym (ap (λ s. s .status) (scope-after m σ h b l)) ∙ j .1))) in
       (subst (λ (s : Scope). UsedBefore (lastUse σ) (s .end) ts) (sym (scope-after m σ h b l)) (law b ts g (z .0) (z .1) .0),
        λ k a. elim (cases-lt k (length (σ .scopes))) [
          inl i ↦ subst (λ (s : Scope). UsedBefore (lastUse σ) (s .end) ts) (sym (scope-after m σ h k i)) (law b ts g k (keeper-by b k (j .0) i a) .1)

@@ -19,7 +19,7 @@ use Rattle.screen.specs.Neighbours.{scopeIn, unwrap, added, UsedBefore}
 use Rattle.screen.specs.declared.node.Node.{Node}
 use Rattle.screen.specs.declared.node.Node.the-variants.{Body, Add, Terminal, Arm, Scope, Pruned}
 use Rattle.screen.proofs.Counts.{same-self}
-use Rattle.screen.proofs.Times.{times}
+use Rattle.screen.proofs.Times.{times, In, in-times}
 use Rattle.screen.proofs.Weights.{gone, turns-gone}
 use Rattle.screen.proofs.MergeSteps.{more-st, Waits, step-waits}
 use Rattle.screen.proofs.MergeTurns.{scan-turns, work-turns, merge-turns}
@@ -29,8 +29,7 @@ use Rattle.screen.proofs.MergeRuns.{Once, Kept, Gap, step-move, step-once, sca
 
 -- Scope b was joined
 abbrev pub JoinedIn : ℕ → List Join → Type 0
-JoinedIn b [] = ⊥
-JoinedIn b (j ∷ js) = (j .joined ≡ b) ⊎ JoinedIn b js
+JoinedIn b js = In b (joinedIn js)
 
 pub by-joined : (k b : ℕ) (js : List Join) → By k b js → JoinedIn b js
 by-joined k b [] h = absurd h
@@ -360,17 +359,12 @@ works E F st₀ lift p (tree n x c s) st di kp la calm =
       rows = rows-⊕ E (Law E F) (unwrap q n x (spliced E P c)) (spliced E p s) (unwrap-rows E (Law E F) q n x (spliced E P c) row (inw .rows)) (rest .rows);
     }
 
-pub joined-times : (b : ℕ) (js : List Join) → JoinedIn b js → 0 < times b (joinedIn js)
-joined-times b [] h = absurd h
-joined-times b (j ∷ js) (inl e) = omega (arith, ap (same b) e, same-self b)
-joined-times b (j ∷ js) (inr h) = omega (arith, joined-times b js h)
-
 -- a Scope joins once
 one-keeper : (k q b : ℕ) (js : List Join) → times b (joinedIn js) ≤ 1 → By k b js → By q b js → k ≡ q
 one-keeper k q b [] h x y = absurd x
 one-keeper k q b (j ∷ js) h (inl x) (inl y) = sym (x .0) ∙ y .0
-one-keeper k q b (j ∷ js) h (inl x) (inr y) = absurd (omega (arith, ap (same b) (x .1), same-self b, joined-times b js (by-joined q b js y)))
-one-keeper k q b (j ∷ js) h (inr x) (inl y) = absurd (omega (arith, ap (same b) (y .1), same-self b, joined-times b js (by-joined k b js x)))
+one-keeper k q b (j ∷ js) h (inl x) (inr y) = absurd (omega (arith, ap (same b) (x .1), same-self b, in-times b (joinedIn js) (by-joined q b js y)))
+one-keeper k q b (j ∷ js) h (inr x) (inl y) = absurd (omega (arith, ap (same b) (y .1), same-self b, in-times b (joinedIn js) (by-joined k b js x)))
 one-keeper k q b (j ∷ js) h (inr x) (inr y) = one-keeper k q b js (omega arith) x y
 
 -- a start at which nothing is joined or flattened
@@ -383,7 +377,7 @@ module _ (E : Found) (f : Forest) (st : Course) (once : Once f) (new : (a : ℕ)
 
   -- a joined Scope stands no more
   outlasts-not : (b : ℕ) → JoinedIn b (fin .joins) → Stands (merge E f st .forest) b → ⊥
-  outlasts-not b j h = omega (arith, goes-once b, joined-times b (fin .joins) j)
+  outlasts-not b j h = omega (arith, goes-once b, in-times b (joinedIn (fin .joins)) j)
 
   lifts : (ts : List ℕ) (b : ℕ) → Gap E fin ts b → Law E fin ts b
   lifts ts b g k h =

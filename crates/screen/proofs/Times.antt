@@ -2,7 +2,7 @@
 use mathlib.Core.Path.{_≡_, refl, sym, ap}
 use mathlib.Core.Bool.{Bool, true, false, cond, not}
 use mathlib.Core.List.{List, [], _∷_, _++_}
-use mathlib.Core.Logic.{inl, inr}
+use mathlib.Core.Logic.{_⊎_, inl, inr}
 use Prim.Native.Nat.{ℕ, zero, suc, _+_, _<_, _≤_}
 use native.Mathlib.Omega.{arith}
 use lib.Dec.{eqb, ltb}
@@ -76,6 +76,24 @@ times-below n (x ∷ xs) h =
     and-from (ltb x n) (every (λ k. ltb k n) xs)
       (lt-ltb x n (elim (cases-lt x n) [ inl l ↦ l | inr l ↦ absurd (omega (arith, h x l, same-self x)) ]))
       (times-below n xs (λ k l. omega (arith, h k l)))
+
+-- k is one of them
+abbrev pub In : ℕ → List ℕ → Type 0
+In s [] = ⊥
+In s (x ∷ xs) = (x ≡ s) ⊎ In s xs
+
+pub in-times : (k : ℕ) (xs : List ℕ) → In k xs → 0 < times k xs
+in-times k [] h = absurd h
+in-times k (x ∷ xs) (inl e) = omega (arith, ap (same k) e, same-self k)
+in-times k (x ∷ xs) (inr h) = omega (arith, in-times k xs h)
+
+pub times-in : (k : ℕ) (xs : List ℕ) → 0 < times k xs → In k xs
+times-in k [] h = absurd (omega arith)
+times-in k (x ∷ xs) h =
+    elim (cases-eq x k) [
+      inl e ↦ inl e
+    | inr e ↦ inr (times-in k xs (omega (arith, same-other k x (λ q. e (sym q)))))
+    ]
 
 -- the sum of h over n numbers from i on
 abbrev pub total : (ℕ → ℕ) → ℕ → ℕ → ℕ
