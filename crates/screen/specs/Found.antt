@@ -42,6 +42,7 @@ pub data Action : Type 0 where
   -- any other
   Other : Action
 
+-- all that a Merge asks
 pub record Found : Type 0 where
   pub rule : Meaning
   -- the entries of a Scope's dependency list, and its dependencies with their types
@@ -61,12 +62,15 @@ pub record Found : Type 0 where
 abbrev pub noScope : Scope
 noScope = record { start = 0; end = 0; status = Unused; reassigns = false; begin = 0; declares = []; merged = [] }
 
+-- no type
 abbrev pub noType : TypeRow
 noType = record { shape = 0; kind = 0 }
 
+-- no read
 abbrev pub noRead : ReadRow
 noRead = record { identifier = 0 }
 
+-- no declaration
 abbrev pub noDeclaration : Declaration
 noDeclaration = record { key = 0; declared = 0 }
 
@@ -94,6 +98,7 @@ lastsAt m w i =
     let t = getD (w .types) (getD (w .identifiers) i noIdentifier .typ) noType in
     m .lasting (t .kind) (t .shape)
 
+-- what a dependency's row stands for
 abbrev pub needOf : Meaning → Rows → DependencyRow → Need
 needOf m w d =
     record {
@@ -101,6 +106,7 @@ needOf m w d =
       lasts = lastsAt m w (d .identifier);
     }
 
+-- what declaration row n says
 abbrev pub declaredAt : Meaning → Rows → ℕ → Declared
 declaredAt m w n =
     let d = getD (w .declarations) n noDeclaration in
@@ -110,6 +116,7 @@ declaredAt m w n =
 abbrev pub readOf : Rows → Reads → ℕ
 readOf w r = declarationOf (w .identifiers) (getD (w .reads) (r .first) noRead .identifier)
 
+-- what a value is to a run
 abbrev pub actionBy : Rows → Value → Action
 actionBy w (value.Other r) = Other
 actionBy w (value.Simple r) = Simple

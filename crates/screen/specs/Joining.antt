@@ -9,6 +9,7 @@ use Rattle.screen.specs.Rules.{Dep}
 use Rattle.screen.specs.Found.{Found, Need}
 use Rattle.screen.specs.Course.{Course, put}
 
+-- the list has no element
 abbrev pub isNil : {A : Type 0} → List A → Bool
 isNil [] = true
 isNil (x ∷ xs) = false
@@ -37,6 +38,7 @@ abbrev pub declares : Found → List ℕ → ℕ → Bool
 declares E [] d = false
 declares E (r ∷ rs) d = eqb (E .declared r .declaration) d || declares E rs d
 
+-- one of them declares this source, if there is one
 abbrev pub declaresSource : Found → List ℕ → Option ℕ → Bool
 declaresSource E rs None = false
 declaresSource E rs (Some d) = declares E rs d
@@ -69,6 +71,7 @@ abbrev pub setRow : Found → List ℕ → ℕ → List ℕ
 setRow E [] r = r ∷ []
 setRow E (q ∷ qs) r = cond (eqb (E .declared q .key) (E .declared r .key)) (r ∷ qs) (q ∷ setRow E qs r)
 
+-- one row after the other
 abbrev pub setRows : Found → List ℕ → List ℕ → List ℕ
 setRows E qs [] = qs
 setRows E qs (r ∷ rs) = setRows E (setRow E qs r) rs

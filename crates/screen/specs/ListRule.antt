@@ -80,15 +80,18 @@ each-reflexive : (l : List Dep) → eachAmong l l ≡ true
 each-reflexive [] = refl
 each-reflexive (x ∷ xs) = and-from (among x (x ∷ xs)) (eachAmong xs (x ∷ xs)) (ap (λ b. b || among x xs) (alike-reflexive x)) (each-more x xs xs (each-reflexive xs))
 
--- each list is the same as itself, by either rule
+-- each list is the same as itself
 pub sameList-reflexive : (l : List Dep) → sameList l l ≡ true
 sameList-reflexive l = and-from (eqb (length l) (length l)) (eachAmong l l) (eq-eqb (length l) (length l) refl) (each-reflexive l)
 
+-- and by the both-ways rule
 pub sameBothWays-reflexive : (l : List Dep) → sameBothWays l l ≡ true
 sameBothWays-reflexive l = and-from (eachAmong l l) (eachAmong l l) (each-reflexive l) (each-reflexive l)
 
+-- what the list rule means
 abbrev pub listMeaning : Meaning
 listMeaning = record { same = sameList; lasting = builtInLasts; reflexive = sameList-reflexive }
 
+-- what the both-ways rule means
 abbrev pub bothWaysMeaning : Meaning
 bothWaysMeaning = record { same = sameBothWays; lasting = builtInLasts; reflexive = sameBothWays-reflexive }

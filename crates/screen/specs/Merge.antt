@@ -42,6 +42,7 @@ noted Arm gs = gs
 noted (Scope s) gs = s ∷ gs
 noted (Pruned s) gs = gs
 
+-- the course with that noted
 abbrev pub flattened : Node → Course → Course
 flattened x st = record { ends = st .ends; declares = st .declares; sources = st .sources; joins = st .joins; flats = noted x (st .flats) }
 
@@ -72,6 +73,7 @@ pub record Merged : Type 0 where
   pub flattened : ℕ
   pub sheet : State
 
+-- the answer, and the sheet with the Scopes and the tree that come out; all else is as it was
 abbrev pub mergedOf : State → Out → Merged
 mergedOf σ o =
     record {

@@ -28,6 +28,7 @@ use Rattle.screen.specs.declared.scope.Status.the-variants as status
 abbrev pub Reads-same : Type 0
 Reads-same = (m : Meaning) (σ : State) → reading (mergeOf m σ .sheet .tree) ≡ reading (σ .tree)
 
+-- a Merge put its content in its place
 abbrev pub isFlattened : Status → Bool
 isFlattened status.Unused = false
 isFlattened status.Standing = false
@@ -53,6 +54,7 @@ pub record Counted (σ : State) (o : Merged) : Type 0 where
   pub scopes : length (o .sheet .scopes) ≡ length (σ .scopes)
   pub changes : (k : ℕ) → k < length (σ .scopes) → Changes (scopeAt σ k .status) (scopeAt (o .sheet) k .status)
 
+-- the counts add up
 abbrev pub Counts-add-up : Type 0
 Counts-add-up = (m : Meaning) (σ : State) → WellFormed σ → Counted σ (mergeOf m σ)
 

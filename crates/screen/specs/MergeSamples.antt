@@ -9,7 +9,7 @@ use Rattle.std.specs.declared.result.Result.the-variants.{Ok, Err}
 use Rattle.block.specs.declared.record.Record.{Record}
 use Rattle.screen.specs.State.{State, new}
 use Rattle.screen.specs.Lists.{every}
-use Rattle.screen.specs.Statuses.{isJoined}
+use Rattle.screen.specs.Statuses.{isJoined, isGone}
 use Rattle.screen.specs.Rules.{Dep, Meaning}
 use Rattle.screen.specs.Found.{scopeAt}
 use Rattle.screen.specs.ListRule.{listMeaning, bothWaysMeaning}
@@ -19,6 +19,7 @@ use Rattle.screen.specs.declared.answer.Answer.{Answer}
 use Rattle.screen.specs.declared.answer.Refusal.{Refusal}
 use Rattle.screen.specs.declared.answer.Line.{Line}
 
+-- no row
 abbrev pub none : ℕ
 none = 4294967295
 
@@ -26,12 +27,15 @@ none = 4294967295
 abbrev pub made : ℕ → ℕ → ℕ → ℕ → ℕ → ℕ → Record
 made tag p q r s t = record { tag = tag; p = p; q = q; r = r; s = s; t = t }
 
+-- a type of a kind and a shape
 abbrev pub type : ℕ → ℕ → Record
 type kind shape = made 1 kind 0 shape 0 0
 
+-- an identifier of a declaration and a type
 abbrev pub identifier : ℕ → ℕ → Record
 identifier declaration typ = made 2 0 0 declaration typ 0
 
+-- a Scope of a range
 abbrev pub scope : ℕ → ℕ → Record
 scope start end = made 4 0 0 start end 0
 
@@ -43,9 +47,11 @@ dependency i = made 5 0 0 i 0 0
 abbrev pub declaration : ℕ → Record
 declaration i = made 6 0 0 i i 0
 
+-- a read of an identifier
 abbrev pub read : ℕ → Record
 read i = made 8 0 0 i 0 0
 
+-- a LoadLocal of a read
 abbrev pub loadLocal : ℕ → Record
 loadLocal k = made 9 5 1 k none 0
 
@@ -53,25 +59,31 @@ loadLocal k = made 9 5 1 k none 0
 abbrev pub storeConst : ℕ → ℕ → Record
 storeConst k i = made 9 10 1 k i 0
 
+-- a sequence of an order and a value, with no inner instruction
 abbrev pub sequence : ℕ → ℕ → Record
 sequence order value = made 9 14 0 order value none
 
+-- an instruction: order, value and target
 abbrev pub add : ℕ → ℕ → ℕ → Record
 add order value target = made 10 0 0 order value target
 
+-- a Scope is opened
 abbrev pub enter : ℕ → Record
 enter k = made 11 2 0 k 0 0
 
--- a terminal with no value, and its block
+-- a terminal with no value
 abbrev pub terminal : Record
 terminal = made 11 0 0 1 none 0
 
+-- a terminal's block
 abbrev pub arm : Record
 arm = made 11 1 0 0 0 0
 
+-- the innermost node is closed
 abbrev pub leave : Record
 leave = made 12 0 0 0 0 0
 
+-- a host's shape
 abbrev pub ownShape : ℕ → Record
 ownShape s = made 15 0 0 s 0 0
 
@@ -94,6 +106,12 @@ abbrev pub sequenced : ℕ → List Record
 sequenced order =
     names ++ (scope 1 5 ∷ scope 6 9 ∷ read 0 ∷ read 6 ∷ loadLocal 0 ∷ loadLocal 1 ∷ sequence order 1 ∷ enter 0 ∷ leave ∷ add 5 0 6 ∷ enter 1 ∷ add 7 2 none ∷ leave ∷ [])
 
+-- the same, but the use is in an inner instruction of this order
+abbrev pub innermost : ℕ → List Record
+innermost order =
+    names ++ (scope 1 5 ∷ scope 6 9 ∷ read 0 ∷ read 6 ∷ read 0 ∷ loadLocal 0 ∷ loadLocal 1 ∷ made 9 16 0 order 1 none ∷ loadLocal 2 ∷ made 9 14 0 7 3 2
+      ∷ enter 0 ∷ leave ∷ add 5 0 6 ∷ enter 1 ∷ add 7 4 none ∷ leave ∷ [])
+
 -- a Scope [x] that declares i and j, and a Scope [i]
 abbrev pub feeding : ℕ → ℕ → List Record
 feeding i j = names ++ ((scope 1 5 ∷ dependency 0 ∷ declaration i ∷ declaration j ∷ scope 5 9 ∷ dependency i ∷ []) ++ (empty 0 ++ empty 1))
@@ -113,6 +131,12 @@ three parts =
 abbrev pub repeating : List Record
 repeating = names ++ (scope 1 5 ∷ dependency 0 ∷ dependency 0 ∷ scope 2 4 ∷ dependency 0 ∷ dependency 1 ∷ enter 0 ∷ enter 1 ∷ leave ∷ leave ∷ [])
 
+-- [x, z] in [x, y] in [x, x]
+abbrev pub nested : List Record
+nested =
+    names ++ (scope 1 9 ∷ dependency 0 ∷ dependency 0 ∷ scope 2 8 ∷ dependency 0 ∷ dependency 1 ∷ scope 3 7 ∷ dependency 0 ∷ dependency 2
+      ∷ enter 0 ∷ enter 1 ∷ enter 2 ∷ leave ∷ leave ∷ leave ∷ [])
+
 -- records, a rule, and what its Merge of the sheet that they build answers
 pub record Sample : Type 0 where
   pub rule : Meaning
@@ -120,9 +144,11 @@ pub record Sample : Type 0 where
   pub flattened : ℕ
   pub records : List Record
 
+-- a sample: the rule, joined, flattened and the records
 abbrev pub sample : Meaning → ℕ → ℕ → List Record → Sample
 sample m j f rs = record { rule = m; joined = j; flattened = f; records = rs }
 
+-- what each shows stands before it
 abbrev pub samples : List Sample
 samples =
     -- the target is used at 8, before the second Scope's end at 9
@@ -134,6 +160,9 @@ samples =
     -- a sequence's value is visited with the sequence's order, 8 or 9, not with its instruction's, 7
     ∷ sample listMeaning 1 0 (sequenced 8)
     ∷ sample listMeaning 0 0 (sequenced 9)
+    -- an inner instruction visits its value with its own order
+    ∷ sample listMeaning 1 0 (innermost 8)
+    ∷ sample listMeaning 0 0 (innermost 9)
     -- fed by a declaration of lasting type
     ∷ sample listMeaning 1 0 (feeding 3 4)
     -- fed by a plain one, though another is lasting
@@ -154,27 +183,28 @@ samples =
     -- the second declares a lasting type: it is asked before its declarations move, and the run goes on
     ∷ sample listMeaning 2 0 (three (declaration 4 ∷ []))
     -- [x, z] in [x, y] in [x, x]: the middle one goes, and the inner one is compared with it as found
-    ∷ sample listMeaning 0 1
-      (names ++ (scope 1 9 ∷ dependency 0 ∷ dependency 0 ∷ scope 2 8 ∷ dependency 0 ∷ dependency 1 ∷ scope 3 7 ∷ dependency 0 ∷ dependency 2
-        ∷ enter 0 ∷ enter 1 ∷ enter 2 ∷ leave ∷ leave ∷ leave ∷ []))
+    ∷ sample listMeaning 0 1 nested
     -- the list rule takes [x, x] and [x, y] for the same, the both-ways rule does not
     ∷ sample listMeaning 0 1 repeating
     ∷ sample bothWaysMeaning 0 0 repeating
     ∷ []
 
--- each record is taken, and the sheet that they build
+-- the record was taken
 abbrev pub isOk : Result Answer Refusal → Bool
 isOk (Ok a) = true
 isOk (Err r) = false
 
+-- each record is taken
 abbrev pub allTaken : State → List Record → Bool
 allTaken σ [] = true
 allTaken σ (x ∷ xs) = let y = step σ x in isOk (y .answer) && allTaken (y .sheet) xs
 
+-- the sheet that records build
 abbrev pub built : State → List Record → State
 built σ [] = σ
 built σ (x ∷ xs) = built (step σ x .sheet) xs
 
+-- its records are taken, and its Merge answers the two numbers
 abbrev pub passes : Sample → Bool
 passes x =
     let o = mergeOf (x .rule) (built new (x .records)) in
@@ -201,6 +231,7 @@ only l c n k e [] = false
 only l c n k e (x ∷ []) = eqb (x .level) l && eqb (x .letter) c && eqb (x .node) n && eqb (x .scope) k && eqb (x .end) e
 only l c n k e (x ∷ y ∷ ys) = false
 
+-- its Merge answers 1 0, and List then writes one line
 abbrev pub two-pass : Bool
 two-pass =
     let o = mergeOf listMeaning (built new two) in
@@ -212,6 +243,7 @@ moving =
     names ++ ((scope 1 5 ∷ dependency 0 ∷ declaration 3 ∷ declaration 4 ∷ scope 5 9 ∷ dependency 0 ∷ made 6 0 0 4 5 0 ∷ declaration 6 ∷ read 3 ∷ loadLocal 0 ∷ [])
     ++ (empty 0 ++ (enter 1 ∷ add 7 0 none ∷ leave ∷ [])))
 
+-- two lists with the same numbers
 abbrev pub numbers : List ℕ → List ℕ → Bool
 numbers [] [] = true
 numbers [] (y ∷ ys) = false
@@ -226,6 +258,10 @@ moving-pass =
     let second = scopeAt (o .sheet) 1 in
     allTaken new moving && numbers (first .declares) (2 ∷ 3 ∷ []) && numbers (second .declares) [] && numbers (first .merged) (1 ∷ []) && isJoined (second .status) && eqb (first .end) 9
 
+-- of the three inside each other it is the middle one that goes
+abbrev pub nested-pass : Bool
+nested-pass = isGone (scopeAt (mergeOf listMeaning (built new nested) .sheet) 1 .status)
+
 -- every sample answers as it should
 abbrev pub Samples-hold : Type 0
-Samples-hold = (every passes samples && lists-pass && two-pass && moving-pass) ≡ true
+Samples-hold = (every passes samples && lists-pass && two-pass && moving-pass && nested-pass) ≡ true

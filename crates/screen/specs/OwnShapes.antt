@@ -6,10 +6,11 @@ use lib.Dec.{eqb}
 use Rattle.screen.specs.Rules.{Meaning}
 use Rattle.screen.specs.declared.rows.ShapeRow.{ShapeRow}
 
--- the kind of a type that is a Function, and of one that is an Object
+-- the kind of a type that is a Function
 abbrev pub function : ℕ
 function = 1
 
+-- and of one that is an Object
 abbrev pub object : ℕ
 object = 2
 

@@ -36,6 +36,7 @@ pub data Effect : Type 0 where
   goes : List ℕ → (ℕ → Option ℕ) → Effect
   stops : Effect
 
+-- a target, if there is one, before these
 abbrev pub target : Option ℕ → List ℕ → List ℕ
 target None ts = ts
 target (Some t) ts = t ∷ ts
@@ -45,10 +46,12 @@ abbrev pub loadSource : Option ℕ → ℕ → (ℕ → Option ℕ) → ℕ → 
 loadSource None r f = f
 loadSource (Some t) r f = put f t (Some r)
 
+-- a source, or what is read itself
 abbrev pub sourceOr : Option ℕ → ℕ → ℕ
 sourceOr None r = r
 sourceOr (Some x) r = x
 
+-- what an instruction with this target does to a run's targets and sources
 abbrev pub effect : Action → Option ℕ → List ℕ → (ℕ → Option ℕ) → Effect
 effect Simple t ts f = goes (target t ts) f
 effect (Load r) t ts f = goes (target t ts) (loadSource t r f)
@@ -61,6 +64,7 @@ abbrev pub targetOf : Found → Option ℕ → Option ℕ
 targetOf E None = None
 targetOf E (Some i) = Some (E .declaration i)
 
+-- the course with other sources
 abbrev pub withSources : Course → (ℕ → Option ℕ) → Course
 withSources st f = record { ends = st .ends; declares = st .declares; sources = f; joins = st .joins; flats = st .flats }
 
@@ -88,6 +92,7 @@ abbrev pub act : Effect → ℕ → ℕ → Forest → Forest → ℕ → Node �
 act (goes ts f) n k c p m x d st = record { out = bare; run = open-run n k c (p ⊕ lone m x d) ts; st = withSources st f }
 act stops n k c p m x d st = record { out = tree n (Scope k) c (p ⊕ lone m x d); run = idle; st = st }
 
+-- a statement outside of a run
 abbrev pub stepIdle : Found → Node → ℕ → Forest → Course → Step
 stepIdle E Body m d st = stay m Body d st
 stepIdle E (Add o v t) m d st = stay m (Add o v t) d st
@@ -96,6 +101,7 @@ stepIdle E Arm m d st = stay m Arm d st
 stepIdle E (Scope b) m d st = begin (eligible E st b) bare m b d st
 stepIdle E (Pruned s) m d st = stay m (Pruned s) d st
 
+-- a statement in a run
 abbrev pub stepOpen : Found → Node → ℕ → ℕ → Forest → Forest → List ℕ → ℕ → Forest → Course → Step
 stepOpen E Body n k c p ts m d st = act stops n k c p m Body d st
 stepOpen E (Add o v t) n k c p ts m d st = act (effect (E .action v) (targetOf E t) ts (st .sources)) n k c p m (Add o v t) d st
@@ -114,6 +120,7 @@ pub record Out : Type 0 where
   pub forest : Forest
   pub st : Course
 
+-- what is done goes before what comes out of the rest
 abbrev pub before : Forest → Out → Out
 before o r = record { forest = o ⊕ r .forest; st = r .st }
 
