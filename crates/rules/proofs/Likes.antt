@@ -10,7 +10,7 @@ use Rattle.screen.specs.Rules.{Dep, depOf, depsOf}
 use Rattle.screen.specs.declared.rows.IdentifierRow.{IdentifierRow}
 use Rattle.screen.specs.declared.rows.PathRow.{PathRow}
 use Rattle.screen.specs.declared.rows.DependencyRow.{DependencyRow}
-use Rattle.rules.specs.Alike.{pathsAlike, alike, found, covered}
+use Rattle.screen.specs.Alike.{pathsAlike, alike, found, covered}
 
 -- rows of zeros, which stand for what is not there
 abbrev pub noPath : PathRow

@@ -4,8 +4,8 @@ use mathlib.Core.Bool.{Bool, true, false, _&&_, _||_}
 use mathlib.Core.List.{[], _∷_}
 use Rattle.std.proofs.shelf.Tests.{false≢true}
 use Rattle.screen.specs.Rules.{Dep}
-use Rattle.rules.specs.Alike.{bitsAlike, alike, covered}
-use Rattle.rules.specs.Reflexive.{alike-self, bits-self}
+use Rattle.screen.specs.Alike.{bitsAlike, alike, covered}
+use Rattle.screen.specs.Reflexive.{alike-self, bits-self}
 use Rattle.rules.specs.Shown.{RepeatPasses, RepeatSeen, RepeatSeenTurned, Symmetric, NotSymmetric}
 
 -- with x alike to itself, what is left of the tests

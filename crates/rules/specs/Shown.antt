@@ -3,8 +3,8 @@ use mathlib.Core.Path.{_≡_}
 use mathlib.Core.Bool.{true, false}
 use mathlib.Core.List.{List, [], _∷_}
 use Rattle.screen.specs.Rules.{Dep}
-use Rattle.rules.specs.Alike.{bitsAlike, alike}
-use Rattle.rules.specs.Same.{listSame, bothWaysSame}
+use Rattle.screen.specs.Alike.{bitsAlike, alike}
+use Rattle.screen.specs.Same.{listSame, bothWaysSame}
 
 -- x twice passes for x and any y under the list rule
 abbrev pub RepeatPasses : Type 0

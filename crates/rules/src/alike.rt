@@ -4,7 +4,7 @@ ghost use mathlib.Core.Path.{_≡_};
 ghost use mathlib.Core.Bool.{Bool};
 ghost use Rattle.screen.specs.declared.rows.PathRow.{PathRow};
 ghost use Rattle.screen.specs.Rules.{depOf, depsOf};
-ghost use Rattle.rules.specs.Alike.{pathsAlike, alike, found, covered};
+ghost use Rattle.screen.specs.Alike.{pathsAlike, alike, found, covered};
 use crate::read::declaration_of;
 use crate::read::path_of;
 use screen::DependencyRow;

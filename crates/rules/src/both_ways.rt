@@ -1,7 +1,7 @@
 //! The both-ways rule: each entry of either list is alike to one of the other, however often it stands there.
 
-ghost use Rattle.rules.specs.Alike.{bitsAlike};
-ghost use Rattle.rules.specs.Meanings.{bothWaysMeaning};
+ghost use Rattle.screen.specs.Alike.{bitsAlike};
+ghost use Rattle.screen.specs.Meanings.{bothWaysMeaning};
 use crate::alike::Alike;
 use crate::alike::is_covered;
 use crate::lasting::is_always_invalidating_type;

@@ -1,7 +1,7 @@
 //! Which types are lasting by themselves.
 
 ghost use mathlib.Core.Path.{_≡_};
-ghost use Rattle.rules.specs.Lasting.{builtIn, lastingBuiltIn};
+ghost use Rattle.screen.specs.Lasting.{builtIn, lastingBuiltIn};
 
 /// The kind of a Function's type.
 pub const FUNCTION: u8 = 1;

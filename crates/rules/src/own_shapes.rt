@@ -2,7 +2,7 @@
 
 ghost use mathlib.Core.Path.{_≡_};
 ghost use Rattle.rules.specs.Kept.{keptIn, shapesOf};
-ghost use Rattle.rules.specs.Meanings.{ownMeaning};
+ghost use Rattle.screen.specs.Meanings.{ownMeaning};
 use crate::lasting::OBJECT;
 use crate::rule::Rule;
 use crate::shapes::Shapes;

@@ -3,7 +3,7 @@
 ghost use mathlib.Core.Path.{_≡_};
 ghost use mathlib.Core.Bool.{true, _||_};
 ghost use Rattle.rules.specs.Kept.{shapesOf};
-ghost use Rattle.rules.specs.Lasting.{lastingBuiltIn, ownObject};
+ghost use Rattle.screen.specs.Lasting.{lastingBuiltIn, ownObject};
 use crate::both_ways::BothWaysRule;
 use crate::both_ways::ByBothWays;
 use crate::list::ByList;

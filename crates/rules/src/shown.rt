@@ -6,7 +6,7 @@
 ghost use mathlib.Core.Path.{_≡_};
 ghost use mathlib.Core.Bool.{true};
 ghost use Rattle.screen.specs.Rules.{depOf};
-ghost use Rattle.rules.specs.Alike.{bitsAlike, alike};
+ghost use Rattle.screen.specs.Alike.{bitsAlike, alike};
 ghost use Rattle.rules.specs.Shown.{RepeatPasses, RepeatSeen, RepeatSeenTurned, Symmetric, NotSymmetric};
 use crate::both_ways::BothWaysRule;
 use crate::both_ways::ByBothWays;

@@ -74,7 +74,7 @@ module _ (is : List IdentifierRow) (vs : List ValueRow) (ss : List Status) (k : 
   kept-opening (node.Pruned j ∷ xs) n m h = absurd (false≢true h)
 
   -- nor did any node of a tree of such nodes
-  kept-openings : (xs : List Node) → nodesKept is vs ss xs ≡ true → (f : Forest) → Labelled xs f → openings k f ≡ 0
+  pub kept-openings : (xs : List Node) → nodesKept is vs ss xs ≡ true → (f : Forest) → Labelled xs f → openings k f ≡ 0
   kept-openings xs h bare t = refl
   kept-openings xs h (tree n x cs us) t =
       omega (arith, sym (ap (opening k) (t .1)) ∙ kept-opening xs n (t .0) h, kept-openings xs h cs (t .2), kept-openings xs h us (t .3))

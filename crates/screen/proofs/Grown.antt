@@ -25,7 +25,7 @@ grow-cnt k (suc d) n x bare h = absurd (false≢true h)
 grow-cnt k (suc d) n x (tree m y cs bare) h = omega (arith, grow-cnt k d n x cs (inside d m y cs h))
 grow-cnt k (suc d) n x (tree m y cs (tree j z ds ts)) h = omega (arith, grow-cnt k (suc d) n x (tree j z ds ts) h)
 
-openings-join : (k : ℕ) (f g : Forest) → openings k (f ⊕ g) ≡ openings k f + openings k g
+pub openings-join : (k : ℕ) (f g : Forest) → openings k (f ⊕ g) ≡ openings k f + openings k g
 openings-join k bare g = omega arith
 openings-join k (tree n x cs ss) g = omega (arith, openings-join k ss g)
 

@@ -46,7 +46,7 @@ plain-opening Arm k h = refl
 plain-opening (Scope j) k h = absurd (true≢false h)
 plain-opening (Pruned j) k h = refl
 
-plain-reached : (ss : List Status) (x : Node) → isScope x ≡ false → reached ss x ≡ 1
+pub plain-reached : (ss : List Status) (x : Node) → isScope x ≡ false → reached ss x ≡ 1
 plain-reached ss Body h = refl
 plain-reached ss (Add o v t) h = refl
 plain-reached ss (Terminal j o v) h = refl

@@ -1,10 +1,61 @@
 //! What every sheet has, whatever records built it.
 
 ghost use Rattle.screen.specs.Laws.{New-formed, Kept-by-steps};
+ghost use Rattle.screen.specs.MergeLaws.{Reads-same, Counts-add-up, Flattened-exactly, Formed-after, Targets-used, Never-both};
+ghost use Rattle.screen.specs.MergeSamples.{Samples-hold};
 
 /// A sheet that records build is well-formed: a new one is, and each record keeps it so.
 pub fn formed_stands() -> u8
     ensures { λ _. ⌜ New-formed × Kept-by-steps ⌝ }
+{
+    0
+}
+
+/// Every sample thread answers as it should.
+pub fn samples_stand() -> u8
+    ensures { λ _. ⌜ Samples-hold ⌝ }
+{
+    0
+}
+
+/// A Merge leaves the tree without its Scopes as it reads.
+pub fn reading_stands() -> u8
+    ensures { λ _. ⌜ Reads-same ⌝ }
+{
+    0
+}
+
+/// A Merge's two numbers are the Scopes that it made joined and flattened, and the others stay as they were.
+pub fn counts_stand() -> u8
+    ensures { λ _. ⌜ Counts-add-up ⌝ }
+{
+    0
+}
+
+/// A Merge flattens a Scope exactly when the rule calls the nearest Scope above, as found, and it the same.
+pub fn flattened_stand() -> u8
+    ensures { λ _. ⌜ Flattened-exactly ⌝ }
+{
+    0
+}
+
+/// A well-formed sheet with only the body open is well-formed after a Merge.
+pub fn merge_formed_stands() -> u8
+    ensures { λ _. ⌜ Formed-after ⌝ }
+{
+    0
+}
+
+/// The targets between a joined Scope and the Scope before it are last used before its end, and its keeper's, or never.
+pub fn targets_stand() -> u8
+    ensures { λ _. ⌜ Targets-used ⌝ }
+{
+    0
+}
+
+/// Scopes side by side with the same entries, no reassignments and an eligible first do not both outlast a Merge.
+pub fn sides_stand() -> u8
+    ensures { λ _. ⌜ Never-both ⌝ }
 {
     0
 }

@@ -1,6 +1,6 @@
 use mathlib.Core.Path.{_≡_}
 use lib.ListN.{drop}
-use Rattle.rules.specs.Alike.{pathsAlike}
+use Rattle.screen.specs.Alike.{pathsAlike}
 use Rattle.rules.proofs.alike.are_alike_paths.Given as given
 
 -- what is left decides

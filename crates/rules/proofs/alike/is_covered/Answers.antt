@@ -2,7 +2,7 @@ use mathlib.Core.Path.{sym, _∙_}
 use mathlib.Core.Bool.{true, false}
 use Rattle.std.proofs.shelf.Lists.{at-drop-all}
 use Rattle.screen.specs.Rules.{depsOf}
-use Rattle.rules.specs.Alike.{covered}
+use Rattle.screen.specs.Alike.{covered}
 use Rattle.rules.proofs.Likes.{covered-next}
 use Rattle.rules.proofs.alike.is_covered.Needs as need
 

@@ -1,7 +1,7 @@
 use mathlib.Core.Path.{_≡_}
 use lib.ListN.{drop}
 use Rattle.screen.specs.Rules.{depsOf}
-use Rattle.rules.specs.Alike.{covered}
+use Rattle.screen.specs.Alike.{covered}
 use Rattle.rules.proofs.alike.is_covered.Given as given
 
 -- what is left decides

@@ -2,7 +2,7 @@ use mathlib.Core.Path.{sym, _∙_}
 use mathlib.Core.Bool.{true, false}
 use Rattle.std.proofs.shelf.Lists.{at-drop-all}
 use Rattle.screen.specs.Rules.{depOf, depsOf}
-use Rattle.rules.specs.Alike.{found}
+use Rattle.screen.specs.Alike.{found}
 use Rattle.rules.proofs.Likes.{found-more}
 use Rattle.rules.proofs.alike.is_found.Needs as need
 

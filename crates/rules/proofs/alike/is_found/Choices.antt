@@ -1,7 +1,7 @@
 use mathlib.Core.Path.{_≡_}
 use lib.ListN.{drop}
 use Rattle.screen.specs.Rules.{depOf, depsOf}
-use Rattle.rules.specs.Alike.{found}
+use Rattle.screen.specs.Alike.{found}
 use Rattle.rules.proofs.alike.is_found.Given as given
 
 -- what is left decides

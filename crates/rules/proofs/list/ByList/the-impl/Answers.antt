@@ -1,4 +1,4 @@
-use Rattle.rules.specs.Reflexive.{list-reflexive}
+use Rattle.screen.specs.Reflexive.{list-reflexive}
 use Rattle.rules.proofs.list.ByList.the-impl.Needs as need
 
 pub reflexive-law : need.reflexive-law

@@ -2,10 +2,10 @@
 use mathlib.Core.Bool.{_||_}
 use mathlib.Core.List.{List}
 use Prim.Native.Nat.{ℕ}
 use Rattle.screen.specs.Rules.{Meaning}
-use Rattle.rules.specs.Same.{listSame, bothWaysSame}
-use Rattle.rules.specs.Lasting.{lastingBuiltIn, ownObject}
-use Rattle.rules.specs.Reflexive.{list-reflexive, both-ways-reflexive}
+use Rattle.screen.specs.Same.{listSame, bothWaysSame}
+use Rattle.screen.specs.Lasting.{lastingBuiltIn, ownObject}
+use Rattle.screen.specs.Reflexive.{list-reflexive, both-ways-reflexive}
 
 abbrev pub listMeaning : Meaning
 listMeaning = record { same = listSame; lasting = lastingBuiltIn; reflexive = list-reflexive }

@@ -3,8 +3,8 @@ use mathlib.Core.Bool.{Bool, _&&_}
 use mathlib.Core.List.{List}
 use lib.Dec.{eqb}
 use lib.ListN.{length}
 use Rattle.screen.specs.Rules.{Dep}
-use Rattle.rules.specs.Alike.{bitsAlike, covered}
+use Rattle.screen.specs.Alike.{bitsAlike, covered}
 
 -- the list rule: equal lengths, and each entry of the first is alike to one of the second
 abbrev pub listSame : List Dep → List Dep → Bool

@@ -5,10 +5,10 @@ use mathlib.Core.List.{List, [], _∷_}
 use lib.Dec.{eqb}
 use lib.ListN.{length}
 use Rattle.std.proofs.shelf.Tests.{and-from, and-parts, or-left, or-right, eq-eqb}
 use Rattle.screen.specs.Rules.{Dep}
 use Rattle.screen.specs.declared.rows.PathRow.{PathRow}
-use Rattle.rules.specs.Alike.{bitsAlike, pathsAlike, alike, found, covered}
-use Rattle.rules.specs.Same.{listSame, bothWaysSame}
+use Rattle.screen.specs.Alike.{bitsAlike, pathsAlike, alike, found, covered}
+use Rattle.screen.specs.Same.{listSame, bothWaysSame}
 
 module _ (like : PathRow → PathRow → Bool) where
   -- one more entry to be alike to does no harm
