@@ -27,3 +27,6 @@ pub mod Segments
 pub mod MergeRuns
 pub mod Sides
 pub mod MergeNeighbours
+pub mod RunForming
+pub mod RunCounting
+pub mod RunLogs

@@ -29,3 +29,5 @@ pub mod MergeSamples
 pub mod Reading
 pub mod Neighbours
 pub mod MergeLaws
+pub mod Runs
+pub mod RunLaws
