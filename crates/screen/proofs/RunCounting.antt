@@ -17,7 +17,7 @@ use Rattle.screen.specs.Refused.{statuses, inUse, refusedOf}
 use Rattle.screen.specs.Step.{also, altered, stood, reassigned, declaring, after, taking, asked, step}
 use Rattle.screen.specs.WellFormed.{WellFormed}
 use Rattle.screen.specs.MergeLaws.{isFlattened, howMany}
-use Rattle.screen.specs.Runs.{Reply, answered, merged, moreOpen, isMerge, mergeAt, stepIf, Asked, ruleOf, stepOf, afterFrom, afterRun, heardFrom, heardIn, opensEntry, opensScope, joinedBy, flattenedBy, scopeOpens, sumJoined, sumFlattened}
+use Rattle.screen.specs.Runs.{Reply, answered, isMerge, mergeAt, stepIf, Asked, ruleOf, stepOf, afterFrom, heardFrom, opensEntry, opensScope, joinedBy, flattenedBy, scopeOpens, sumJoined, sumFlattened}
 use Rattle.screen.specs.RunLaws.{Opens-always-add-up}
 use Rattle.screen.specs.declared.node.Node.the-variants as node
 use Rattle.screen.specs.declared.scope.Status.{Status}

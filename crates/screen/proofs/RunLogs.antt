@@ -1,10 +1,9 @@
 -- Over a run, the tree without its Scopes reads as the log.
 use mathlib.Core.Path.{_≡_, refl, sym, ap, subst, _∙_}
-use mathlib.Core.Bool.{Bool, true, false, cond}
+use mathlib.Core.Bool.{Bool, true, false}
 use mathlib.Core.List.{List, [], _∷_, _++_}
 use Prim.Native.Nat.{ℕ, zero, suc, _+_, _-_}
 use native.Mathlib.Numerals.{add-one, sub-one}
-use native.Mathlib.Omega.{arith}
 use lib.ListN.{length}
 use Rattle.std.specs.declared.option.Option.{Option}
 use Rattle.std.specs.declared.option.Option.the-variants.{Some, None}
@@ -12,16 +11,16 @@ use Rattle.std.proofs.shelf.Lists.{append-assoc, append-nil}
 use Rattle.std.proofs.shelf.Tests.{false≢true}
 use Rattle.block.specs.declared.record.Record.{Record}
 use Rattle.screen.specs.Entries.{entryOf}
-use Rattle.screen.specs.Forest.{Forest, bare, tree, _⊕_, isAdd}
+use Rattle.screen.specs.Forest.{Forest, bare, tree}
 use Rattle.screen.specs.Open.{opens, grow}
-use Rattle.screen.specs.Reading.{Item, entered, close, wrapped, reading}
+use Rattle.screen.specs.Reading.{Item, entered, wrapped, reading}
 use Rattle.screen.specs.Refused.{refusedOf}
 use Rattle.screen.specs.Rules.{Meaning}
 use Rattle.screen.specs.State.{State, new}
 use Rattle.screen.specs.Step.{after, taking, asked, step}
 use Rattle.screen.specs.Merge.{mergeOf}
 use Rattle.screen.specs.WellFormed.{WellFormed}
-use Rattle.screen.specs.Runs.{Reply, answered, isMerge, mergeAt, stepIf, Asked, ruleOf, stepOf, afterFrom, heardFrom, Log, newLog, shown, ended, letGo, loggedEntry, fed, logFrom, readingOpen}
+use Rattle.screen.specs.Runs.{answered, isMerge, mergeAt, stepIf, Asked, ruleOf, stepOf, afterFrom, heardFrom, Log, newLog, shown, ended, letGo, loggedEntry, fed, logFrom, readingOpen}
 use Rattle.screen.specs.RunLaws.{Always-read-as-log}
 use Rattle.screen.specs.declared.node.Node.{Node}
 use Rattle.screen.specs.declared.node.Node.the-variants as node
@@ -31,7 +30,7 @@ use Rattle.screen.specs.declared.answer.Refusal.{Refusal}
 use Rattle.screen.proofs.Grown.{inside}
 use Rattle.screen.proofs.Forming.{formed-new}
 use Rattle.screen.proofs.MergeReading.{reading-join, reads-same}
-use Rattle.screen.proofs.RunForming.{formed-of, formed-run}
+use Rattle.screen.proofs.RunForming.{formed-of}
 
 -- a node's reading: what it shows, its content, and its end
 wrapped-parts : (x : Node) (l : List Item) → wrapped x l ≡ shown x ++ (l ++ ended x)
@@ -193,4 +192,4 @@ followed-from σ l (a ∷ h) w f =
     followed-from (stepOf σ a .sheet) (fed l (a .asks) (stepOf σ a .reply)) h (formed-of σ a w) (followed-if (isMerge (a .asks)) (ruleOf a) σ l (a .asks) w f)
 
 pub always-read-as-log : Always-read-as-log
-always-read-as-log h = record { items = followed-from new newLog h formed-new (record { items = refl; held = refl }) .items; levels = formed-run h .tree .levels }
+always-read-as-log h = followed-from new newLog h formed-new (record { items = refl; held = refl }) .items

@@ -2,9 +2,10 @@
 use mathlib.Core.Path.{_≡_}
 use mathlib.Core.Bool.{true, false}
 use mathlib.Core.List.{List, _∷_, _++_}
-use Prim.Native.Nat.{ℕ, _+_, _<_}
+use Prim.Native.Nat.{ℕ, zero, suc, _+_, _<_}
 use lib.ListN.{length}
-use Rattle.screen.specs.Forest.{shallow}
+use Rattle.std.specs.declared.result.Result.the-variants.{Err}
+use Rattle.screen.specs.Forest.{Forest, bare, tree}
 use Rattle.screen.specs.Rules.{Meaning}
 use Rattle.screen.specs.State.{State}
 use Rattle.screen.specs.Statuses.{isStanding, isJoined}
@@ -17,17 +18,26 @@ use Rattle.screen.specs.Neighbours.{Beside, Behind, UsedBefore}
 use Rattle.screen.specs.Merge.{mergeOf}
 use Rattle.screen.specs.MergeLaws.{isFlattened, howMany, FlattenedBy, SameAsAbove, JoinedBy, foundWithout}
 use Rattle.screen.specs.WellFormed.{WellFormed}
-use Rattle.screen.specs.Runs.{Reply, merged, Asked, ruleOf, stepOf, afterRun, heardIn, logOf, readingOpen, scopeOpens, sumJoined, sumFlattened}
+use Rattle.screen.specs.Runs.{answered, merged, Asked, ruleOf, stepOf, afterRun, heardIn, logOf, readingOpen, scopeOpens, sumJoined, sumFlattened}
+use Rattle.screen.specs.declared.answer.Refusal.the-variants.{Unsound}
 use Rattle.screen.specs.declared.scope.Status.the-variants as status
 
--- every sheet that a run reaches, at its end or on its way, is well-formed
-abbrev pub Formed-throughout : List Asked → Type 0
-Formed-throughout h = (before later : List Asked) → h ≡ before ++ later → WellFormed (afterRun before)
+-- no node of a forest lies over so many levels down
+abbrev pub Within : ℕ → Forest → Type 0
+Within room bare = Unit {0}
+Within zero (tree n x cs ss) = ⊥
+Within (suc room) (tree n x cs ss) = Within room cs × Within (suc room) ss
 
--- the tree without its Scopes reads as the log, and no node but an Add's lies over 63 levels below the body
-pub record Reads-as-log (h : List Asked) : Type 0 where
-  pub items : readingOpen (afterRun h .opened) (afterRun h .tree) ≡ logOf h .items
-  pub levels : shallow 63 (afterRun h .tree) ≡ true
+-- every sheet that a run reaches, at its end or on its way, is well-formed, with no node over 64 levels below the body;
+-- so no record of it is refused because the tables are not sound
+pub record Formed-throughout (h : List Asked) : Type 0 where
+  pub formed : (before later : List Asked) → h ≡ before ++ later → WellFormed (afterRun before)
+  pub levels : (before later : List Asked) → h ≡ before ++ later → Within 64 (afterRun before .tree)
+  pub sound : (before : List Asked) (a : Asked) (later : List Asked) → h ≡ before ++ a ∷ later → stepOf (afterRun before) a .reply ≡ answered (Err Unsound) → ⊥
+
+-- the tree without its Scopes reads as the log
+abbrev pub Reads-as-log : List Asked → Type 0
+Reads-as-log h = readingOpen (afterRun h .opened) (afterRun h .tree) ≡ logOf h .items
 
 -- each Scope that was opened stands, or is joined or flattened; and these are as many as the Merges answered
 pub record Opens-add-up (h : List Asked) : Type 0 where

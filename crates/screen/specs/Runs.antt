@@ -13,7 +13,7 @@ use Rattle.screen.specs.Forest.{Forest, bare, tree, isAdd}
 use Rattle.screen.specs.Reading.{Item, entered, close, wrapped, reading}
 use Rattle.screen.specs.Rules.{Meaning}
 use Rattle.screen.specs.State.{State, new}
-use Rattle.screen.specs.Step.{Outcome, step}
+use Rattle.screen.specs.Step.{step}
 use Rattle.screen.specs.Merge.{mergeOf}
 use Rattle.screen.specs.declared.node.Node.{Node}
 use Rattle.screen.specs.declared.node.Node.the-variants as node

@@ -61,14 +61,14 @@ pub fn sides_stand() -> u8
     0
 }
 
-/// Every sheet that a run of records reaches is well-formed, whatever it was asked.
+/// Every sheet that a run of records reaches is well-formed, with no node over 64 levels below the body, so its tables are never found unsound.
 pub fn always_formed_stands() -> u8
     ensures { λ _. ⌜ Always-formed ⌝ }
 {
     0
 }
 
-/// After any run the tree without its Scopes reads as the log, and no node but an Add's lies over 63 levels below the body.
+/// After any run the tree without its Scopes reads as the log.
 pub fn log_stands() -> u8
     ensures { λ _. ⌜ Always-read-as-log ⌝ }
 {
