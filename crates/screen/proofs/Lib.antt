@@ -30,3 +30,4 @@ pub mod MergeNeighbours
 pub mod RunForming
 pub mod RunCounting
 pub mod RunLogs
+pub mod RunSampled

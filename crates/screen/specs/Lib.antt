@@ -31,3 +31,4 @@ pub mod Neighbours
 pub mod MergeLaws
 pub mod Runs
 pub mod RunLaws
+pub mod RunSamples

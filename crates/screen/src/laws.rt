@@ -3,6 +3,7 @@
 ghost use Rattle.screen.specs.Laws.{New-formed, Kept-by-steps};
 ghost use Rattle.screen.specs.MergeLaws.{Reads-same, Counts-add-up, Flattened-exactly, Formed-after, Targets-used, Never-both};
 ghost use Rattle.screen.specs.MergeSamples.{Samples-hold};
+ghost use Rattle.screen.specs.RunSamples.{Run-samples-hold};
 ghost use Rattle.screen.specs.RunLaws.{Always-formed, Always-read-as-log, Opens-always-add-up, Merges-always-lawful, Runs-are-lawful};
 
 /// A sheet that records build is well-formed: a new one is, and each record keeps it so.
@@ -57,6 +58,13 @@ pub fn targets_stand() -> u8
 /// Scopes side by side with the same entries, no reassignments and an eligible first do not both outlast a Merge.
 pub fn sides_stand() -> u8
     ensures { λ _. ⌜ Never-both ⌝ }
+{
+    0
+}
+
+/// Every sample run is told, logged and counted as it should be, a refused Merge among them.
+pub fn run_samples_stand() -> u8
+    ensures { λ _. ⌜ Run-samples-hold ⌝ }
 {
     0
 }

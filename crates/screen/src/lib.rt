@@ -23,6 +23,7 @@ pub use laws::merge_formed_stands;
 pub use laws::merges_stand;
 pub use laws::opens_stand;
 pub use laws::reading_stands;
+pub use laws::run_samples_stand;
 pub use laws::runs_stand;
 pub use laws::samples_stand;
 pub use laws::sides_stand;
