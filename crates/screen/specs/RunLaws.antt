@@ -28,8 +28,8 @@ Within room bare = Unit {0}
 Within zero (tree n x cs ss) = ⊥
 Within (suc room) (tree n x cs ss) = Within room cs × Within (suc room) ss
 
--- every sheet that a run reaches, at its end or on its way, is well-formed, with no node over 64 levels below the body;
--- so no record of it is refused because the tables are not sound
+-- every sheet that a run reaches, at its end or on its way, is well-formed, with no node over 64 levels below the body.
+-- That is what tables have to hold to be sound; and of the steps themselves, none answers that they are not
 pub record Formed-throughout (h : List Asked) : Type 0 where
   pub formed : (before later : List Asked) → h ≡ before ++ later → WellFormed (afterRun before)
   pub levels : (before later : List Asked) → h ≡ before ++ later → Within 64 (afterRun before .tree)

@@ -69,7 +69,7 @@ pub fn run_samples_stand() -> u8
     0
 }
 
-/// Every sheet that a run of records reaches is well-formed, with no node over 64 levels below the body, so its tables are never found unsound.
+/// Every sheet that a run of records reaches is well-formed, with no node over 64 levels below the body, and no record is told that tables are not sound.
 pub fn always_formed_stands() -> u8
     ensures { λ _. ⌜ Always-formed ⌝ }
 {
