@@ -28,3 +28,7 @@ pub mod Segments
 pub mod MergeRuns
 pub mod Sides
 pub mod MergeNeighbours
+pub mod RunForming
+pub mod RunCounting
+pub mod RunLogs
+pub mod RunSampled

@@ -9,7 +9,7 @@ use Rattle.screen.specs.Reading.{wrapped, reading}
 use Rattle.screen.specs.MergeLaws.{Reads-same}
 use Rattle.screen.proofs.MergeTurns.{Turns, none, then, below, behind, flat, takes, merge-turns}
 
-reading-join : (f g : Forest) → reading (f ⊕ g) ≡ reading f ++ reading g
+pub reading-join : (f g : Forest) → reading (f ⊕ g) ≡ reading f ++ reading g
 reading-join bare g = refl
 reading-join (tree n x cs ss) g = ap (λ l. wrapped x (reading cs) ++ l) (reading-join ss g) ∙ sym (append-assoc (wrapped x (reading cs)) (reading ss) (reading g))
 

@@ -32,3 +32,6 @@ pub mod MergeSamples
 pub mod Reading
 pub mod Neighbours
 pub mod MergeLaws
+pub mod Runs
+pub mod RunLaws
+pub mod RunSamples

@@ -3,6 +3,8 @@
 ghost use Rattle.screen.specs.Laws.{New-formed, Kept-by-steps};
 ghost use Rattle.screen.specs.MergeLaws.{Reads-same, Counts-add-up, Flattened-exactly, Formed-after, Targets-used, Never-both};
 ghost use Rattle.screen.specs.MergeSamples.{Samples-hold};
+ghost use Rattle.screen.specs.RunSamples.{Run-samples-hold};
+ghost use Rattle.screen.specs.RunLaws.{Always-formed, Always-read-as-log, Opens-always-add-up, Merges-always-lawful, Runs-are-lawful};
 
 /// A sheet that records build is well-formed: a new one is, and each record keeps it so.
 pub fn formed_stands() -> u8
@@ -56,6 +58,48 @@ pub fn targets_stand() -> u8
 /// Scopes side by side with the same entries, no reassignments and an eligible first do not both outlast a Merge.
 pub fn sides_stand() -> u8
     ensures { λ _. ⌜ Never-both ⌝ }
+{
+    0
+}
+
+/// Every sample run is told, logged and counted as it should be, a refused Merge among them.
+pub fn run_samples_stand() -> u8
+    ensures { λ _. ⌜ Run-samples-hold ⌝ }
+{
+    0
+}
+
+/// Every sheet that a run of records reaches is well-formed, with no node over 64 levels below the body, and no record is told that tables are not sound.
+pub fn always_formed_stands() -> u8
+    ensures { λ _. ⌜ Always-formed ⌝ }
+{
+    0
+}
+
+/// After any run the tree without its Scopes reads as the log.
+pub fn log_stands() -> u8
+    ensures { λ _. ⌜ Always-read-as-log ⌝ }
+{
+    0
+}
+
+/// Over any run the Scopes that were opened are those that stand and those that the Merges answered as joined and flattened.
+pub fn opens_stand() -> u8
+    ensures { λ _. ⌜ Opens-always-add-up ⌝ }
+{
+    0
+}
+
+/// Each accepted Merge of any run flattens just what it should, and keeps the laws of targets and of Scopes side by side.
+pub fn merges_stand() -> u8
+    ensures { λ _. ⌜ Merges-always-lawful ⌝ }
+{
+    0
+}
+
+/// Every run of records from a new sheet keeps all the laws over runs at once.
+pub fn runs_stand() -> u8
+    ensures { λ _. ⌜ Runs-are-lawful ⌝ }
 {
     0
 }
