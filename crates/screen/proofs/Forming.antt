@@ -42,7 +42,7 @@ use Rattle.screen.proofs.Accepting.{Accepted, accepted}
 use Rattle.screen.proofs.Filling.{type-put, identifier-put, path-put, dependency-put, declaration-put, read-put, shape-put, value-put, node-put, scope-put}
 
 -- a sheet does not refuse the entry
-abbrev Accepts : State → Entry → Type 0
+abbrev pub Accepts : State → Entry → Type 0
 Accepts σ e = Accepted (σ .rows) (statuses (σ .scopes)) (topOf σ) (σ .opened) e
 
 -- a node that names put rows did not open a Scope that is yet to come

@@ -13,7 +13,7 @@ use Rattle.screen.specs.Entries.{entryOf}
 use Rattle.screen.specs.Rules.{Meaning}
 use Rattle.screen.specs.State.{State, Scope, new}
 use Rattle.screen.specs.Statuses.{isUnused, isStanding, isJoined}
-use Rattle.screen.specs.Refused.{statuses, inUse, refusedOf}
+use Rattle.screen.specs.Refused.{statuses, topOf, inUse, refusedOf}
 use Rattle.screen.specs.Step.{also, altered, stood, reassigned, declaring, after, taking, asked, step}
 use Rattle.screen.specs.WellFormed.{WellFormed}
 use Rattle.screen.specs.MergeLaws.{isFlattened, howMany}
@@ -27,7 +27,8 @@ use Rattle.screen.specs.declared.entry.Entry.the-variants as entry
 use Rattle.screen.specs.declared.entry.Put.the-variants as put
 use Rattle.screen.specs.declared.entry.Part.the-variants as part
 use Rattle.screen.specs.declared.answer.Refusal.{Refusal}
-use Rattle.screen.proofs.Forming.{Accepted, accepted, formed-new}
+use Rattle.screen.proofs.Accepting.{accepted}
+use Rattle.screen.proofs.Forming.{Accepts, formed-new}
 use Rattle.screen.proofs.Scoping.{statuses-kept, statuses-stood, statuses-fresh}
 use Rattle.screen.proofs.Fates.{counts-add-up}
 use Rattle.screen.proofs.RunForming.{formed-of}
@@ -106,7 +107,7 @@ is-unused ss k = go (getD ss k Unused)
     go Joined h = absurd (false≢true (sym h))
     go Flattened h = absurd (false≢true (sym h))
 
-tally-entry : (σ : State) (e : Entry) → Accepted σ e → Tally (σ .scopes) (after σ e .scopes) (opensEntry e) 0 0
+tally-entry : (σ : State) (e : Entry) → Accepts σ e → Tally (σ .scopes) (after σ e .scopes) (opensEntry e) 0 0
 tally-entry σ (entry.Put (put.Type t)) a = tally-none (σ .scopes)
 tally-entry σ (entry.Put (put.Identifier i)) a = tally-none (σ .scopes)
 tally-entry σ (entry.Put (put.Path p)) a = tally-none (σ .scopes)
@@ -123,7 +124,7 @@ tally-entry σ (entry.Node (node.Add o v t)) a = tally-none (σ .scopes)
 tally-entry σ (entry.Node (node.Terminal k o v)) a = tally-none (σ .scopes)
 tally-entry σ (entry.Node node.Arm) a = tally-none (σ .scopes)
 tally-entry σ (entry.Node (node.Scope k)) a =
-    tally-stood (σ .scopes) k (ltb-true k (length (statuses (σ .scopes))) (a .rows-put)) (is-unused (statuses (σ .scopes)) k (a .free))
+    tally-stood (σ .scopes) k (ltb-true k (length (statuses (σ .scopes))) (a .named-is)) (is-unused (statuses (σ .scopes)) k (a .used-is))
 tally-entry σ (entry.Node (node.Pruned k)) a = tally-none (σ .scopes)
 tally-entry σ entry.Close a = tally-none (σ .scopes)
 tally-entry σ entry.List a = tally-none (σ .scopes)
@@ -133,7 +134,7 @@ tally-step : (σ : State) (x : Record) → Tally (σ .scopes) (step σ x .sheet 
 tally-step σ x = go (entryOf x) refl
   where
     took : (e : Entry) → entryOf x ≡ Some e → (r : Option Refusal) → refusedOf σ e ≡ r → Tally (σ .scopes) (taking σ e r .sheet .scopes) (opensScope x (answered (taking σ e r .answer))) 0 0
-    took e is None ok = rw is (tally-entry σ e (accepted σ e ok))
+    took e is None ok = rw is (tally-entry σ e (accepted (σ .rows) (statuses (σ .scopes)) (topOf σ) (σ .opened) e ok))
     took e is (Some r) ok = tally-none (σ .scopes)
 
     go : (o : Option Entry) → entryOf x ≡ o → Tally (σ .scopes) (asked σ o .sheet .scopes) (opensScope x (answered (asked σ o .answer))) 0 0
@@ -154,7 +155,7 @@ tally-if true m σ x w = tally-merge m σ x (σ .opened) w
 tally-if false m σ x w = tally-step σ x
 
 tally-from : (σ : State) (h : List Asked) → WellFormed σ
-  → Tally (σ .scopes) (afterFrom σ h .scopes) (scopeOpens (heardFrom σ h)) (sumJoined (heardFrom σ h)) (sumFlattened (heardFrom σ h))
+    → Tally (σ .scopes) (afterFrom σ h .scopes) (scopeOpens (heardFrom σ h)) (sumJoined (heardFrom σ h)) (sumFlattened (heardFrom σ h))
 tally-from σ [] w = tally-none (σ .scopes)
 tally-from σ (a ∷ h) w = tally-then (tally-if (isMerge (a .asks)) (ruleOf a) σ (a .asks) w) (tally-from (stepOf σ a .sheet) h (formed-of σ a w))
 

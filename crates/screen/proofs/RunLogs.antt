@@ -43,7 +43,7 @@ wrapped-parts (node.Pruned k) l = refl
 
 -- a node with a later sibling is not open
 reading-next : (e d n : ℕ) (x : Node) (m : ℕ) (y : Node) (cs : Forest) (j : ℕ) (z : Node) (ds ts : Forest)
-  → readingOpen (suc e) (tree m y cs (grow (suc d) n x (tree j z ds ts))) ≡ wrapped y (reading cs) ++ readingOpen (suc e) (grow (suc d) n x (tree j z ds ts))
+    → readingOpen (suc e) (tree m y cs (grow (suc d) n x (tree j z ds ts))) ≡ wrapped y (reading cs) ++ readingOpen (suc e) (grow (suc d) n x (tree j z ds ts))
 reading-next e d n x m y cs j z ds bare = refl
 reading-next e d n x m y cs j z ds (tree i w es us) = refl
 
@@ -80,7 +80,7 @@ road (suc d) (tree m y cs bare) above = road d cs (y ∷ above)
 road (suc d) (tree m y cs (tree k z ds ts)) above = road (suc d) (tree k z ds ts) above
 
 road-next : (e d n : ℕ) (x : Node) (m : ℕ) (y : Node) (cs : Forest) (j : ℕ) (z : Node) (ds ts : Forest) (above : List Node)
-  → road (suc e) (tree m y cs (grow (suc d) n x (tree j z ds ts))) above ≡ road (suc e) (grow (suc d) n x (tree j z ds ts)) above
+    → road (suc e) (tree m y cs (grow (suc d) n x (tree j z ds ts))) above ≡ road (suc e) (grow (suc d) n x (tree j z ds ts)) above
 road-next e d n x m y cs j z ds bare above = refl
 road-next e d n x m y cs j z ds (tree i w es us) above = refl
 

@@ -51,12 +51,12 @@ pub record Merge-lawful (m : Meaning) (σ : State) : Type 0 where
   pub flattened : (k : ℕ) → k < length (σ .scopes) → (FlattenedBy m σ k → SameAsAbove m σ k) × (SameAsAbove m σ k → FlattenedBy m σ k)
   -- the targets between a joined Scope and the Scope before it are last used before its end, and its keeper's, or never
   pub targets : (b : ℕ) (ts : List ℕ) → Behind (foundOf m σ) b ts (foundWithout m σ) → JoinedBy m σ b →
-    UsedBefore (lastUse σ) (scopeAt (mergeOf m σ .sheet) b .end) ts
-    × ((k : ℕ) → member b (scopeAt (mergeOf m σ .sheet) k .merged) ≡ true → UsedBefore (lastUse σ) (scopeAt (mergeOf m σ .sheet) k .end) ts)
+      UsedBefore (lastUse σ) (scopeAt (mergeOf m σ .sheet) b .end) ts
+      × ((k : ℕ) → member b (scopeAt (mergeOf m σ .sheet) k .merged) ≡ true → UsedBefore (lastUse σ) (scopeAt (mergeOf m σ .sheet) k .end) ts)
   -- Scopes side by side with the same entries, no reassignments and an eligible first do not both outlast it
   pub sides : (a b : ℕ) → Beside a b (foundWithout m σ) → entriesOf σ a ≡ entriesOf σ b →
-    scopeAt σ a .reassigns ≡ false → scopeAt σ b .reassigns ≡ false → eligible (foundOf m σ) (start σ) a ≡ true →
-    scopeAt (mergeOf m σ .sheet) a .status ≡ status.Standing → scopeAt (mergeOf m σ .sheet) b .status ≡ status.Standing → ⊥
+      scopeAt σ a .reassigns ≡ false → scopeAt σ b .reassigns ≡ false → eligible (foundOf m σ) (start σ) a ≡ true →
+      scopeAt (mergeOf m σ .sheet) a .status ≡ status.Standing → scopeAt (mergeOf m σ .sheet) b .status ≡ status.Standing → ⊥
 
 -- an accepted Merge after these steps: it leaves what a Merge by its rule makes of the sheet found, answers that one's numbers, and is lawful
 pub record Merged-lawfully (before : List Asked) (a : Asked) (joined flattened : ℕ) : Type 0 where

@@ -8,7 +8,7 @@ use Rattle.std.specs.declared.result.Result.the-variants.{Ok, Err}
 use Rattle.block.specs.declared.record.Record.{Record}
 use Rattle.screen.specs.Numbers.{numberOf}
 use Rattle.screen.specs.Reading.{Item, entered, close}
-use Rattle.screen.specs.ListRule.{listMeaning, bothWaysMeaning}
+use Rattle.screen.specs.Meanings.{listMeaning, bothWaysMeaning}
 use Rattle.screen.specs.Statuses.{isStanding}
 use Rattle.screen.specs.MergeLaws.{howMany}
 use Rattle.screen.specs.MergeSamples.{made, scope, enter, leave, terminal, arm, two, names, dependency, numbers}
@@ -60,7 +60,7 @@ joining-pass = numbers (toldIn (heardIn joining)) (0 ∷ 0 ∷ 0 ∷ 0 ∷ 0 ∷
 abbrev pub choosing : List Asked
 choosing =
     asking (scope 1 5 ∷ dependency 0 ∷ dependency 0 ∷ scope 2 4 ∷ dependency 0 ∷ dependency 1
-      ∷ enter 0 ∷ enter 1 ∷ leave ∷ merge 0 ∷ leave ∷ leave ∷ merge 1 ∷ merge 0 ∷ [])
+    ∷ enter 0 ∷ enter 1 ∷ leave ∷ merge 0 ∷ leave ∷ leave ∷ merge 1 ∷ merge 0 ∷ [])
 
 abbrev pub choosing-pass : Bool
 choosing-pass =
