@@ -28,6 +28,7 @@ pub mod Segments
 pub mod MergeRuns
 pub mod Sides
 pub mod MergeNeighbours
+pub mod RunBuilt
 pub mod RunForming
 pub mod RunCounting
 pub mod RunLogs

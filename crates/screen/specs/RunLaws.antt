@@ -18,8 +18,10 @@ use Rattle.screen.specs.Neighbours.{Beside, Behind, UsedBefore}
 use Rattle.screen.specs.Merge.{mergeOf}
 use Rattle.screen.specs.MergeLaws.{isFlattened, howMany, FlattenedBy, SameAsAbove, JoinedBy, foundWithout}
 use Rattle.screen.specs.WellFormed.{WellFormed}
-use Rattle.screen.specs.Runs.{answered, merged, Asked, ruleOf, stepOf, afterRun, heardIn, logOf, readingOpen, scopeOpens, sumJoined, sumFlattened}
-use Rattle.screen.specs.declared.answer.Refusal.the-variants.{Unsound}
+use Rattle.block.specs.declared.record.Record.{Record}
+use Rattle.screen.specs.Step.{refusing, step}
+use Rattle.screen.specs.Runs.{answered, merged, isMerge, stepBy, Asked, ruleOf, stepOf, afterRun, heardIn, logOf, readingOpen, scopeOpens, sumJoined, sumFlattened}
+use Rattle.screen.specs.declared.answer.Refusal.the-variants.{Unsound, Field}
 use Rattle.screen.specs.declared.scope.Status.the-variants as status
 
 -- no node of a forest lies over so many levels down
@@ -92,3 +94,8 @@ Merges-always-lawful = (h : List Asked) → Merges-lawful h
 
 abbrev pub Runs-are-lawful : Type 0
 Runs-are-lawful = (h : List Asked) → Lawful h
+
+-- what is built on the tables so far: a run's step, but for a Merge, which is refused with 7
+pub record Step-but-Merge : Type 0 where
+  pub others : (first second : Meaning) (σ : State) (x : Record) → isMerge x ≡ false → stepBy first second σ x ≡ record { reply = answered (step σ x .answer); sheet = step σ x .sheet }
+  pub merges : (σ : State) (x : Record) → isMerge x ≡ true → step σ x ≡ refusing σ Field

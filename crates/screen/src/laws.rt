@@ -4,7 +4,7 @@ ghost use Rattle.screen.specs.Laws.{New-formed, Kept-by-steps};
 ghost use Rattle.screen.specs.MergeLaws.{Reads-same, Counts-add-up, Flattened-exactly, Formed-after, Targets-used, Never-both};
 ghost use Rattle.screen.specs.MergeSamples.{Samples-hold};
 ghost use Rattle.screen.specs.RunSamples.{Run-samples-hold};
-ghost use Rattle.screen.specs.RunLaws.{Always-formed, Always-read-as-log, Opens-always-add-up, Merges-always-lawful, Runs-are-lawful};
+ghost use Rattle.screen.specs.RunLaws.{Always-formed, Always-read-as-log, Opens-always-add-up, Merges-always-lawful, Runs-are-lawful, Step-but-Merge};
 
 /// A sheet that records build is well-formed: a new one is, and each record keeps it so.
 pub fn formed_stands() -> u8
@@ -100,6 +100,13 @@ pub fn merges_stand() -> u8
 /// Every run of records from a new sheet keeps all the laws over runs at once.
 pub fn runs_stand() -> u8
     ensures { λ _. ⌜ Runs-are-lawful ⌝ }
+{
+    0
+}
+
+/// What is built on the tables is a run's step, but for a Merge, which is refused with 7 until it is built there too.
+pub fn step_but_merge_stands() -> u8
+    ensures { λ _. ⌜ Step-but-Merge ⌝ }
 {
     0
 }

@@ -27,6 +27,7 @@ pub use laws::run_samples_stand;
 pub use laws::runs_stand;
 pub use laws::samples_stand;
 pub use laws::sides_stand;
+pub use laws::step_but_merge_stands;
 pub use laws::targets_stand;
 pub use node::Node;
 pub use rows::DependencyPut;
