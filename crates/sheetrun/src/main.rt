@@ -1,17 +1,13 @@
 //! Runs the records of a block file on a new sheet, and prints what came of them.
 
-mod fault;
-mod memory;
-mod run;
-
-use fault::Fault;
-use fault::BadBlockDisplay;
-use fault::FaultDisplay;
-use fault::FaultFromIo;
-use run::run;
+use programs::run;
+use programs::BadBlockDisplay;
+use programs::Fault;
+use programs::FaultDisplay;
+use programs::FaultFromIo;
 
 fn main(rt: LibcRuntime) -> Result<(), Fault> {
-    match run(&rt) {
+    match run(rt.alloc(), &mut rt.stdin(), &mut rt.stdout()) {
         Ok(()) => Ok(()),
         Err(Fault::Block(bad)) => {
             println!(rt, "{bad}")?;
