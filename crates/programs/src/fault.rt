@@ -42,6 +42,12 @@ pub impl From<AllocError> for Fault as FaultFromAlloc {
     }
 }
 
+pub impl From<screen::Refusal> for Fault as FaultFromRefusal {
+    fn from(refusal: screen::Refusal) -> Fault {
+        Fault::Tables(refusal)
+    }
+}
+
 pub impl fmt::Display for BadBlock as BadBlockDisplay {
     fn fmt<W: fmt::Write>(&self, f: &mut fmt::Formatter<W>) -> fmt::Result {
         let number = self.fault.number();

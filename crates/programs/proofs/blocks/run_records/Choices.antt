@@ -1,7 +1,7 @@
 use Rattle.sheet.specs.Tables.{memory, workMemory}
 use Rattle.sheet.specs.Kept.{Ready}
-use Rattle.sheetrun.proofs.run.run_records.Given as given
+use Rattle.programs.proofs.blocks.run_records.Given as given
 
 -- the tables hold a sheet
 abbrev pub Inv-loop-at : given.InvT-loop-at
-Inv-loop-at l = Ready (memory (l .sheet)) (workMemory (l .work))
+Inv-loop-at g l = Ready (memory (l .sheet)) (workMemory (l .work))

@@ -1,6 +1,6 @@
 use Prim.Native.Nat.{_≤_}
 use lib.ListN.{length}
-use Rattle.sheetrun.proofs.run.fill.Given as given
+use Rattle.programs.proofs.blocks.fill.Given as given
 
 -- no more than the buffer holds
 abbrev pub Inv-loop-turn : given.InvT-loop-turn

@@ -1,7 +1,5 @@
-//! The memory that the program lends to its sheet.
+//! The memory that a program lends to its sheet.
 
-use crate::fault::Fault;
-use crate::run::run_on;
 use block::Record;
 use screen::DependencyRow;
 use screen::IdentifierRow;
@@ -38,6 +36,13 @@ pub struct Memory {
     sources: Vec<u32>,
     targets: Vec<u8>,
     scratch: Vec<DependencyRow>,
+}
+
+/// A sheet and its work tables in memory that a program lends.
+#[derive(Drop)]
+pub struct Lent<'a> {
+    pub sheet: Sheet<'a>,
+    pub work: Work<'a>,
 }
 
 impl Memory {
@@ -116,9 +121,9 @@ impl Memory {
         })
     }
 
-    /// Lends the rows to a sheet, and runs standard input on it.
-    pub fn lend(&mut self, rt: &LibcRuntime) -> Result<(), Fault> {
-        let mut sheet = Sheet {
+    /// Lends the rows to a sheet, which is still to be started.
+    pub fn lend(&mut self) -> Lent<'_> {
+        let sheet = Sheet {
             types: Table {
                 rows: self.types.as_mut_slice(),
                 count: 0,
@@ -161,13 +166,13 @@ impl Memory {
             },
             innermost: 0,
         };
-        let mut work = Work {
+        let work = Work {
             lines: self.lines.as_mut_slice(),
             uses: self.uses.as_mut_slice(),
             sources: self.sources.as_mut_slice(),
             targets: self.targets.as_mut_slice(),
             scratch: self.scratch.as_mut_slice(),
         };
-        run_on(rt, &mut sheet, &mut work)
+        Lent { sheet, work }
     }
 }
