@@ -1,5 +1,7 @@
 //! The 512-byte blocks that records come in: what makes one good, and the records inside it.
 
+#![tactic(auto)]
+
 mod bytes;
 mod check;
 mod cursor;

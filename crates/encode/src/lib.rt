@@ -1,5 +1,7 @@
 //! Writes records into blocks and takes them out again, and puts a record's fields together.
 
+#![tactic(auto)]
+
 mod blocks;
 mod bytes;
 mod decode;

@@ -1,5 +1,7 @@
 //! What the programs share: the memory that they lend to a sheet, the run of a block file on it, and how an answer is written.
 
+#![tactic(auto)]
+
 mod blocks;
 mod came;
 mod fault;

@@ -1,5 +1,7 @@
 //! Replays the cases of its data on new sheets, and compares what came of each with what its file expects.
 
+#![tactic(auto)]
+
 mod bytes;
 mod case;
 mod failure;

@@ -1,5 +1,7 @@
 //! Invalidation rules: are two dependency lists the same, and is a type lasting?
 
+#![tactic(auto)]
+
 mod alike;
 mod both_ways;
 mod lasting;

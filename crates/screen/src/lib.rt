@@ -1,5 +1,7 @@
 //! What a sheet means: its rows, its nodes, what a record asks for, and what may be answered.
 
+#![tactic(auto)]
+
 mod answer;
 mod entry;
 mod laws;

@@ -1,5 +1,7 @@
 //! A sheet in memory that a host lends: its tables, what makes them sound, and the records on them.
 
+#![tactic(auto)]
+
 mod levels;
 mod list;
 mod named;

@@ -1,5 +1,7 @@
 //! Tests of tables that a host damaged: each is refused with 6 exactly while it is not sound.
 
+#![tactic(auto)]
+
 #[cfg(test)]
 mod built;
 #[cfg(test)]

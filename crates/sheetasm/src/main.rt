@@ -1,5 +1,7 @@
 //! Text from standard input to blocks on standard output. Nothing is written where a line is not understood.
 
+#![tactic(auto)]
+
 use encode::fill_blocks;
 use std::alloc::Global;
 use std::io;

@@ -1,5 +1,7 @@
 //! Runs the records of a block file on a new sheet, and prints what came of them.
 
+#![tactic(auto)]
+
 use programs::{Fault, run};
 
 /// Runs standard input. A block that is refused ends the run, and is printed as a record's refusal is.

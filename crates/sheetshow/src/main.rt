@@ -1,6 +1,8 @@
 //! Blocks from standard input to text on standard output, and after the word `tree` also the tree that they build. A block that is not
 //! good is named in a comment, and the program fails.
 
+#![tactic(auto)]
+
 mod tree;
 
 use encode::Page;

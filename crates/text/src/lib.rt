@@ -1,5 +1,7 @@
 //! Records as lines of text, both ways, and a block of a file as text.
 
+#![tactic(auto)]
+
 mod lines;
 mod listing;
 mod names;

@@ -1,5 +1,7 @@
 //! Tests of the text form: every record form there and back, what is refused, and whole texts and blocks.
 
+#![tactic(auto)]
+
 #[cfg(test)]
 mod forms;
 #[cfg(test)]
