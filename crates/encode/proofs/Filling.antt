@@ -3,6 +3,7 @@ use Rattle.std.proofs.Common.{◌≡◌, ℕ, zero, suc, ◌+◌, ◌-◌, ◌*�
 use native.Mathlib.Nat.{div-div-eq-div-mul}
 use lib.ListN.{length-replicate}
 use Rattle.std.proofs.lemmas.List.{take_at, take_all, drop_at, get_or-append-add, replicate-append-replicate, append-nil}
+use Rattle.std.proofs.lemmas.List.Elements.{All-head, All-tail}
 use Rattle.std.proofs.lemmas.Nat.{div-add-mod', div_below}
 use Rattle.std.proofs.lemmas.Bool.Decides.{nat_tests}
 use Rattle.block.specs.Bytes.{u16_at, u32_at}
@@ -149,11 +150,12 @@ records_after [] p rest i h e = refl
 records_after (r ∷ rs) p rest i h e =
     let ys = in_row rs ++ rest in
     let regroup : p ++ (r ++ in_row rs ++ rest) ≡ p ++ (r ++ ys) = ap (λ z. p ++ z) (append_assoc r (in_row rs) rest) in
-    let next : length (p ++ r) ≡ 16 * (i + 1) = omega (arith, length-append p r, h.0) in
+    let head : length r ≡ 16 = All-head (λ x. length x ≡ 16) r rs h in
+    let next : length (p ++ r) ≡ 16 * (i + 1) = omega (arith, length-append p r, head) in
     ap (λ z. records_from z i (suc (length rs))) regroup
-    ∙ ap (λ z. z ∷ records_from (p ++ (r ++ ys)) (i + 1) (length rs)) (ap (take 16) (drop_at p (r ++ ys) (16 * i) e) ∙ take_at r ys 16 h.0)
+    ∙ ap (λ z. z ∷ records_from (p ++ (r ++ ys)) (i + 1) (length rs)) (ap (take 16) (drop_at p (r ++ ys) (16 * i) e) ∙ take_at r ys 16 head)
     ∙ ap (λ z. r ∷ records_from z (i + 1) (length rs)) (sym (append_assoc p r ys))
-    ∙ ap (λ z. r ∷ z) (records_after rs (p ++ r) rest (i + 1) h.1 next)
+    ∙ ap (λ z. r ∷ z) (records_after rs (p ++ r) rest (i + 1) (All-tail (λ x. length x ≡ 16) r rs h) next)
 
 pub records_in_lem : (number : ℕ) (rs : List (List ℕ)) → Sixteens rs → length rs ≤ 31 → records_of (block_of number rs) ≡ rs
 unfolding block_of summed_of

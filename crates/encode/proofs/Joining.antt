@@ -1,7 +1,8 @@
 -- A record's fields and its sixteen bytes are each other's.
 use Rattle.std.proofs.Common.{◌≡◌, ℕ, zero, suc, ◌+◌, ◌*◌, ◌/◌, ◌%◌, ◌<◌, List, [], ◌∷◌, ◌++◌, length, get_or, sym, refl, ap, ◌∙◌, mod-eq_of_lt, arith}
 use native.Mathlib.Nat.{div-div-eq-div-mul}
-use Rattle.std.specs.List.{AllByRecursion as All}
+use Rattle.std.specs.Prelude.{All}
+use Rattle.std.proofs.lemmas.List.Elements.{All-get_or}
 use Rattle.std.proofs.lemmas.Nat.{div-mul-add, mod-mul-add}
 use Rattle.block.specs.Fields.{fields_of}
 use Rattle.block.specs.declared.record.Record.{Record}
@@ -70,9 +71,7 @@ placed (suc n) [] e = absurd (omega arith)
 placed (suc n) (x ∷ xs) e = ap (λ z. x ∷ z) (placed n xs (omega arith))
 
 all_at : (xs : List ℕ) → All (λ b. b < 256) xs → (k : ℕ) → k < length xs → get_or xs k 0 < 256
-all_at [] h k less = absurd (omega arith)
-all_at (x ∷ xs) h zero less = h.0
-all_at (x ∷ xs) h (suc k) less = all_at xs h.1 k (omega arith)
+all_at xs h k less = All-get_or (λ b. b < 256) xs k 0 less h
 
 pub join_split : (bytes : List ℕ) → length bytes ≡ 16 → All (λ b. b < 256) bytes → bytes ≡ sixteen (fields_of bytes)
 unfolding by_place

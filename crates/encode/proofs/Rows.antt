@@ -1,6 +1,7 @@
 -- Records in a row, and zeros that a part is put over.
 use Rattle.std.proofs.Common.{◌≡◌, ℕ, zero, suc, ◌+◌, ◌-◌, ◌*◌, ◌<◌, ◌≤◌, min, ◌⊎◌, List, [], ◌∷◌, ◌++◌, length, get_or, take, drop, replicate, sym, refl, ap, ◌∙◌, inl, inr, append_assoc, arith, length-append, length-take}
 use Rattle.std.proofs.lemmas.List.{take_at, drop_at, drop-replicate, drop-drop, append-nil, take_more, take_all}
+use Rattle.std.proofs.lemmas.List.Elements.{All-head, All-tail, All-take, All-drop, All-from_get_or}
 use Rattle.encode.specs.Filled.{Sixteens, in_row}
 
 -- each record of a slice has sixteen bytes, as the checker tells it
@@ -28,21 +29,16 @@ row_more xs i h = ap in_row (take_more xs i [] h) ∙ row_push (take i xs) (get_
 
 pub row_length : (xs : List (List ℕ)) → Sixteens xs → length (in_row xs) ≡ 16 * length xs
 row_length [] h = refl
-row_length (x ∷ xs) h = omega (arith, length-append x (in_row xs), row_length xs h.1, h.0)
+row_length (x ∷ xs) h = omega (arith, length-append x (in_row xs), row_length xs (All-tail (λ r. length r ≡ 16) x xs h), All-head (λ r. length r ≡ 16) x xs h)
 
 pub told_sixteens : (xs : List (List ℕ)) → Told xs → Sixteens xs
-told_sixteens [] h = tt
-told_sixteens (x ∷ xs) h = (h 0 (omega arith), told_sixteens xs (λ i less. h (suc i) (omega arith)))
+told_sixteens xs h = All-from_get_or (λ r. length r ≡ 16) xs [] h
 
 pub sixteens_take : (n : ℕ) (xs : List (List ℕ)) → Sixteens xs → Sixteens (take n xs)
-sixteens_take zero xs h = tt
-sixteens_take (suc n) [] h = tt
-sixteens_take (suc n) (x ∷ xs) h = (h.0, sixteens_take n xs h.1)
+sixteens_take n xs h = All-take (λ r. length r ≡ 16) n xs h
 
 pub sixteens_drop : (n : ℕ) (xs : List (List ℕ)) → Sixteens xs → Sixteens (drop n xs)
-sixteens_drop zero xs h = h
-sixteens_drop (suc n) [] h = tt
-sixteens_drop (suc n) (x ∷ xs) h = sixteens_drop n xs h.1
+sixteens_drop n xs h = All-drop (λ r. length r ≡ 16) n xs h
 
 -- the first i records
 pub row_below : (xs : List (List ℕ)) → Told xs → (i : ℕ) → i ≤ length xs → length (in_row (take i xs)) ≡ 16 * i

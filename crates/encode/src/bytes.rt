@@ -1,7 +1,6 @@
 //! A record's fields back into its sixteen bytes.
 
-ghost use Rattle.std.specs.Prelude.{◌≡◌, ℕ, ◌<◌, List, length};
-ghost use Rattle.std.specs.List.{AllByRecursion as All};
+ghost use Rattle.std.specs.Prelude.{◌≡◌, ℕ, ◌<◌, List, All, length};
 ghost use Rattle.block.specs.Fields.{fields_of};
 
 use block::Record;

@@ -18,7 +18,7 @@ pub trait Alike {
 
 /// Whether two paths are alike, entry for entry.
 fn are_alike_paths<R: Alike>(rule: &R, a: &[PathRow], b: &[PathRow]) -> bool
-    ensures { result ≡ paths_alike (like rule.now) a.now b.now }
+    ensures { result ≡ paths_alike (R.like rule.now) a.now b.now }
 {
     if a.len() != b.len() {
         return false;
@@ -39,7 +39,7 @@ fn are_alike<R: Alike>(
     x: DependencyRow,
     y: DependencyRow,
 ) -> bool
-    ensures { result ≡ alike (like rule.now) (dep_of identifiers.now paths.now x) (dep_of identifiers.now paths.now y) }
+    ensures { result ≡ alike (R.like rule.now) (dep_of identifiers.now paths.now x) (dep_of identifiers.now paths.now y) }
 {
     declaration_of(identifiers, x.identifier) == declaration_of(identifiers, y.identifier)
         && are_alike_paths(rule, path_of(paths, x), path_of(paths, y))
@@ -53,7 +53,7 @@ fn is_found<R: Alike>(
     x: DependencyRow,
     list: &[DependencyRow],
 ) -> bool
-    ensures { result ≡ found (like rule.now) (dep_of identifiers.now paths.now x) (deps_of identifiers.now paths.now list.now) }
+    ensures { result ≡ found (R.like rule.now) (dep_of identifiers.now paths.now x) (deps_of identifiers.now paths.now list.now) }
 {
     for y in list {
         if are_alike(rule, identifiers, paths, x, *y) {
@@ -71,7 +71,7 @@ pub fn is_covered<R: Alike>(
     a: &[DependencyRow],
     b: &[DependencyRow],
 ) -> bool
-    ensures { result ≡ covered (like rule.now) (deps_of identifiers.now paths.now a.now) (deps_of identifiers.now paths.now b.now) }
+    ensures { result ≡ covered (R.like rule.now) (deps_of identifiers.now paths.now a.now) (deps_of identifiers.now paths.now b.now) }
 {
     for x in a {
         if !is_found(rule, identifiers, paths, *x, b) {

@@ -42,7 +42,7 @@ fn is_kept(s: &Sheet<'_>, record: Record) -> bool
 /// Whether each row keeps the list of its record, and names rows that are put.
 pub(crate) fn rows_kept<R: Row>(s: &Sheet<'_>, rows: &[R]) -> bool
     requires { Within (memory s.now) }
-    ensures { result ≡ every (λ x. kept (rows_of (memory s.now)) (statuses_of (items (memory s.now).scopes)) (made x)) rows.now }
+    ensures { result ≡ every (λ x. kept (rows_of (memory s.now)) (statuses_of (items (memory s.now).scopes)) (R.made x)) rows.now }
 {
     for row in rows {
         if !is_kept(s, row.record()) {

@@ -3,8 +3,8 @@ use Rattle.block.specs.Block.{weighed, check_of}
 use Rattle.block.proofs.Sums.{weighed_more, summand}
 use Rattle.block.proofs.check.check_of.Goals as goal
 
-pub overflow-add-sum-in-loop-i : goal.overflow-add-sum-in-loop-i
-overflow-add-sum-in-loop-i c = omega (arith, summand c.loop-i.i (get_or c.args.bytes.now c.loop-i.i 0) (omega arith) (omega arith))
+pub overflow_add-sum-in-loop-i : goal.overflow_add-sum-in-loop-i
+overflow_add-sum-in-loop-i c = omega (arith, summand c.loop-i.i (get_or c.args.bytes.now c.loop-i.i 0) (omega arith) (omega arith))
 
 pub loop-i-preserved : goal.loop-i-preserved
 loop-i-preserved c = (

@@ -12,12 +12,12 @@ pub loop-number-preserved : goal.loop-number-preserved
 loop-number-preserved c =
     let xs = c.args.records.now in
     let n = c.loop-number.number in
-    let got : c.fill-block.new.bytes ≡ block_of n (portion xs n) =
-    c.fill-block.ensures.exact ∙ ap (λ z. block_of n (take 31 z)) (take_rest xs (31 * n)) in
-    let after : vec_items c.extend-from-slice.new.self ≡ blocks_of xs n ++ c.fill-block.new.bytes =
-    pushed c.fill-block.new.bytes c.loop-number.invariant.0 c.in-ok-extend-from-slice.was c.extend-from-slice.ensures.items in (
+    let got : c.fill_block.new.bytes ≡ block_of n (portion xs n) =
+    c.fill_block.ensures.exact ∙ ap (λ z. block_of n (take 31 z)) (take_rest xs (31 * n)) in
+    let after : vec_items c.extend_from_slice.new.self ≡ blocks_of xs n ++ c.fill_block.new.bytes =
+    pushed c.fill_block.new.bytes c.loop-number.invariant.0 c.in_ok-extend_from_slice.was c.extend_from_slice.ensures.items in (
       after ∙ ap (λ z. blocks_of xs n ++ z) got ∙ ap (blocks_of xs) (let e : suc n ≡ n + 1 = omega arith in e),
-      below_more _ _ c.loop-number.invariant.1 (ap (λ b. fault_of b n) (sym got) ∙ c.fill-block.ensures.good),
+      below_more _ _ c.loop-number.invariant.1 (ap (λ b. fault_of b n) (sym got) ∙ c.fill_block.ensures.good),
     )
 
 pub returns : goal.returns

@@ -9,25 +9,25 @@ pub returns : goal.returns
 returns c =
     let rs = take 31 c.args.records.now in
     let number = c.args.number in
-    let count = c.put-records-count.result in
-    let check = c.check-of-check.result in
+    let count = c.put_records-count.result in
+    let check = c.check_of-check.result in
     let h : Sixteens rs = sixteens_take 31 c.args.records.now (told_sixteens c.args.records.now c.told-records) in
-    let n : count ≡ length rs = c.put-records-count.ensures.taken ∙ sym (length-take 31 c.args.records.now) in
+    let n : count ≡ length rs = c.put_records-count.ensures.taken ∙ sym (length-take 31 c.args.records.now) in
     let few : length rs ≤ 31 = omega (arith, length-take 31 c.args.records.now) in
-    let b0 : c.put-records-count.new.bytes ≡ in_row rs ++ replicate (512 - 16 * length rs) 0 =
-    c.put-records-count.ensures.exact ∙ ap (λ k. in_row rs ++ replicate (512 - 16 * k) 0) n in
+    let b0 : c.put_records-count.new.bytes ≡ in_row rs ++ replicate (512 - 16 * length rs) 0 =
+    c.put_records-count.ensures.exact ∙ ap (λ k. in_row rs ++ replicate (512 - 16 * k) 0) n in
     let b1 : c.put.new.bytes ≡ body rs ++ four_bytes number ++ replicate 12 0 =
-    c.put.ensures ∙ ap (λ p. take 496 c.put-records-count.new.bytes ++ (p ++ drop (496 + length p) c.put-records-count.new.bytes)) c.to-le-bytes.ensures
-    ∙ put_number rs number c.put-records-count.new.bytes h few b0 in
+    c.put.ensures ∙ ap (λ p. take 496 c.put_records-count.new.bytes ++ (p ++ drop (496 + length p) c.put_records-count.new.bytes)) c.to_le_bytes.ensures
+    ∙ put_number rs number c.put_records-count.new.bytes h few b0 in
     let b2 : c.put-2.new.bytes ≡ summed_of number rs ++ replicate 4 0 =
-    c.put-2.ensures ∙ ap (λ p. take 500 c.put.new.bytes ++ (p ++ drop (500 + length p) c.put.new.bytes)) (c.to-le-bytes-2.ensures ∙ ap two_bytes n)
+    c.put-2.ensures ∙ ap (λ p. take 500 c.put.new.bytes ++ (p ++ drop (500 + length p) c.put.new.bytes)) (c.to_le_bytes-2.ensures ∙ ap two_bytes n)
     ∙ put_count rs number c.put.new.bytes h few b1 in
     let b3 : c.put-3.new.bytes ≡ block_of number rs =
-    c.put-3.ensures ∙ ap (λ p. take 508 c.put-2.new.bytes ++ (p ++ drop (508 + length p) c.put-2.new.bytes)) c.to-le-bytes-3.ensures
-    ∙ put_check rs number check c.put-2.new.bytes h few b2 c.check-of-check.ensures in
-    let sum : check ≡ weighed 0 (summed_of number rs) = c.check-of-check.ensures ∙ ap check_of b2 ∙ check_before number rs (replicate 4 0) h few in
+    c.put-3.ensures ∙ ap (λ p. take 508 c.put-2.new.bytes ++ (p ++ drop (508 + length p) c.put-2.new.bytes)) c.to_le_bytes-3.ensures
+    ∙ put_check rs number check c.put-2.new.bytes h few b2 c.check_of-check.ensures in
+    let sum : check ≡ weighed 0 (summed_of number rs) = c.check_of-check.ensures ∙ ap check_of b2 ∙ check_before number rs (replicate 4 0) h few in
     record {
-      taken = c.put-records-count.ensures.taken;
+      taken = c.put_records-count.ensures.taken;
       exact = b3;
       good = ap (λ b. fault_of b number) b3 ∙ good_block number rs h few (omega arith) (omega (arith, sum));
       same = ap records_of b3 ∙ records_in_lem number rs h few;

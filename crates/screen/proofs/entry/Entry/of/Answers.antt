@@ -3,4 +3,4 @@ use Rattle.screen.proofs.entry.Entry.of.Goals as goal
 
 pub returns : goal.returns
 unfolding entry_of
-returns c = c.by-tag.ensures
+returns c = c.by_tag.ensures

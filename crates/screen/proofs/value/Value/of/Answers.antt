@@ -3,4 +3,4 @@ use Rattle.screen.proofs.value.Value.of.Goals as goal
 
 pub returns : goal.returns
 unfolding value_of
-returns c = c.by-kind.ensures
+returns c = c.by_kind.ensures
