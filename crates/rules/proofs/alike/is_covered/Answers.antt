@@ -5,8 +5,8 @@ use Rattle.screen.specs.Alike.{covered}
 use Rattle.rules.proofs.Likes.{covered_next}
 use Rattle.rules.proofs.alike.is_covered.Goals as goal
 
-pub returns-then-not-is-found : goal.returns-then-not-is-found
-returns-then-not-is-found g c =
+pub returns-then-not-is_found : goal.returns-then-not-is_found
+returns-then-not-is_found g c =
     let is = c.args.identifiers.now in
     let ps = c.args.paths.now in
     sym (c.loop-x.invariant ∙ covered_next (g.R.Alike.like c.args.rule.now) is ps c.args.a.now (deps_of is ps c.args.b.now) c.loop-x.x-index false c.loop-x-test.true (cc))

@@ -5,8 +5,8 @@ use Rattle.screen.specs.Alike.{found}
 use Rattle.rules.proofs.Likes.{found_more}
 use Rattle.rules.proofs.alike.is_found.Goals as goal
 
-pub returns-then-are-alike : goal.returns-then-are-alike
-returns-then-are-alike g c =
+pub returns-then-are_alike : goal.returns-then-are_alike
+returns-then-are_alike g c =
     let is = c.args.identifiers.now in
     let ps = c.args.paths.now in
     sym (c.loop-y.invariant ∙ found_more (g.R.Alike.like c.args.rule.now) is ps (dep_of is ps c.args.x) c.args.list.now c.loop-y.y-index true c.loop-y-test.true (cc))

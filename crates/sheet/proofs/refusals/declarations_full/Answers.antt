@@ -4,4 +4,4 @@ use Rattle.sheet.specs.Holds.{declaration_of}
 use Rattle.sheet.proofs.refusals.declarations_full.Goals as goal
 
 pub returns : goal.returns
-returns c = c.is-full.ensures ∙ ap (leb 1024) (sym (length-map c.args.rows.now declaration_of))
+returns c = c.is_full.ensures ∙ ap (leb 1024) (sym (length-map c.args.rows.now declaration_of))

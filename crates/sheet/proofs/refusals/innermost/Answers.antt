@@ -17,6 +17,6 @@ bounds-nodes-at c =
 pub returns : goal.returns
 returns c σ h =
     let ns = items (memory c.args.s.now).nodes in (
-      c.open-count.ensures _ σ.tree σ.opened (subst (λ (xs : List NodeRow). Planted xs (statuses σ.scopes) c.args.s.now.innermost σ.tree σ.opened) (sym c.put-nodes.ensures) h.planted),
-      c.made-by.ensures ∙ ap (λ xs. node_of (row xs c.args.s.now.innermost).made) c.put-nodes.ensures ∙ innermost_node ns (statuses σ.scopes) c.args.s.now.innermost σ.tree σ.opened h.planted,
+      c.open_count.ensures _ σ.tree σ.opened (subst (λ (xs : List NodeRow). Planted xs (statuses σ.scopes) c.args.s.now.innermost σ.tree σ.opened) (sym c.put-nodes.ensures) h.planted),
+      c.made_by.ensures ∙ ap (λ xs. node_of (row xs c.args.s.now.innermost).made) c.put-nodes.ensures ∙ innermost_node ns (statuses σ.scopes) c.args.s.now.innermost σ.tree σ.opened h.planted,
     )

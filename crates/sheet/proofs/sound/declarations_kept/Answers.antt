@@ -14,5 +14,5 @@ pub returns : goal.returns
 returns c =
     let m = memory c.args.s.now in
     let k = kept (rows_of m) (statuses_of (items m.scopes)) in
-    c.rows-kept.ensures ∙ ap (every (λ (d : DeclarationRow). k (declaration_record d.key d.declared))) c.put.ensures
+    c.rows_kept.ensures ∙ ap (every (λ (d : DeclarationRow). k (declaration_record d.key d.declared))) c.put.ensures
     ∙ sym (every_map (λ (d : Declaration). k (declaration_record d.key d.declared)) declaration_of (items m.declarations))

@@ -7,8 +7,8 @@ use Rattle.sheet.proofs.Storing.{items_many}
 use Rattle.sheet.proofs.Sounding.{node_scopes, some_node, body_node}
 use Rattle.sheet.proofs.sound.tree_holds.Goals as goal
 
-pub tree-sound-requires : goal.tree-sound-requires
-tree-sound-requires c =
+pub tree_sound-requires : goal.tree_sound-requires
+tree_sound-requires c =
     let m = memory c.args.s.now in
     let in' = c.requires.within in
     let nodes : length c.put.result.now ≡ length (items m.nodes) = ap length c.put.ensures in

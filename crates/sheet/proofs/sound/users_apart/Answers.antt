@@ -7,5 +7,5 @@ use Rattle.sheet.proofs.sound.users_apart.Goals as goal
 
 pub returns : goal.returns
 returns c =
-    c.one-user-each.ensures ∙ ap (λ l. fresh (length l) (replicate 1024 false) (namings l (nodes_of c.put-2.result.now))) c.put.ensures
+    c.one_user_each.ensures ∙ ap (λ l. fresh (length l) (replicate 1024 false) (namings l (nodes_of c.put-2.result.now))) c.put.ensures
     ∙ ap (λ l. fresh (length (items (memory c.args.s.now).values)) (replicate 1024 false) (namings (items (memory c.args.s.now).values) (nodes_of l))) c.put-2.ensures

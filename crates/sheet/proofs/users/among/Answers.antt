@@ -3,7 +3,7 @@ use Rattle.std.proofs.lemmas.List.{at_drop_all}
 use Rattle.screen.specs.Lists.{member, present}
 use Rattle.screen.proofs.Members.{present_more, member_here, member_next}
 use Rattle.sheet.proofs.users.among.Goals as goal
-use Rattle.sheet.proofs.users.among.Goals.{in-Some+else-n-k, in-default}
+use Rattle.sheet.proofs.users.among.Goals.{in-Some+else-n-k, in_default}
 
 pub returns-then-n-k : goal.returns-then-n-k
 returns-then-n-k c =
@@ -18,7 +18,7 @@ loop-name-preserved c =
     let k = c.args.k in
     elim c.match-name.branch [
       | in-Some+else-n-k w ↦ c.loop-name.invariant ∙ ap (member k) (present_more os i _ c.loop-name-test.true w.in-Some.is) ∙ member_next k w.in-Some.n _ w.if-n-k.false
-      | in-default w ↦ c.loop-name.invariant ∙ ap (member k) (present_more os i _ c.loop-name-test.true w.in-default.is)
+      | in_default w ↦ c.loop-name.invariant ∙ ap (member k) (present_more os i _ c.loop-name-test.true w.in_default.is)
     ]
 
 pub returns : goal.returns

@@ -13,14 +13,14 @@ returns-then-among c =
     let xs = c.args.nodes.now in
     let i = c.loop-row.row-index in
     let k = c.args.k in
-    sym (c.loop-row.invariant ∙ at_drop_more (λ l. member k (gathered names_in (nodes_of l))) xs i no_node c.loop-row-test.true ∙ member_part k names_in (node_of (get_or xs i no_node).made) (nodes_of (drop (i + 1) xs)) true (sym (ap (λ o. member k (present (o ∷ []))) (c.value-in.ensures ∙ ap value_in c.made-by.ensures)) ∙ sym c.among.ensures ∙ c.if-among.true))
+    sym (c.loop-row.invariant ∙ at_drop_more (λ l. member k (gathered names_in (nodes_of l))) xs i no_node c.loop-row-test.true ∙ member_part k names_in (node_of (get_or xs i no_node).made) (nodes_of (drop (i + 1) xs)) true (sym (ap (λ o. member k (present (o ∷ []))) (c.value_in.ensures ∙ ap value_in c.made_by.ensures)) ∙ sym c.among.ensures ∙ c.if-among.true))
 
 pub loop-row-preserved : goal.loop-row-preserved
 loop-row-preserved c =
     let xs = c.args.nodes.now in
     let i = c.loop-row.row-index in
     let k = c.args.k in
-    c.loop-row.invariant ∙ at_drop_more (λ l. member k (gathered names_in (nodes_of l))) xs i no_node c.loop-row-test.true ∙ member_part k names_in (node_of (get_or xs i no_node).made) (nodes_of (drop (i + 1) xs)) false (sym (ap (λ o. member k (present (o ∷ []))) (c.value-in.ensures ∙ ap value_in c.made-by.ensures)) ∙ sym c.among.ensures ∙ c.if-among.false)
+    c.loop-row.invariant ∙ at_drop_more (λ l. member k (gathered names_in (nodes_of l))) xs i no_node c.loop-row-test.true ∙ member_part k names_in (node_of (get_or xs i no_node).made) (nodes_of (drop (i + 1) xs)) false (sym (ap (λ o. member k (present (o ∷ []))) (c.value_in.ensures ∙ ap value_in c.made_by.ensures)) ∙ sym c.among.ensures ∙ c.if-among.false)
 
 pub returns : goal.returns
 returns c = sym (c.loop-row.invariant ∙ at_drop_all (λ l. member c.args.k (gathered names_in (nodes_of l))) c.args.nodes.now c.loop-row.row-index c.loop-row-test.false)

@@ -6,11 +6,11 @@ pub returns-then-next-rows : goal.returns-then-next-rows
 returns-then-next-rows c =
     let rows = c.args.rows.now in
     record {
-      is = sym (end_here (length rows) c.loop-step.-step rows c.loop-step.at (omega arith) (omega arith)) ∙ c.loop-step.invariant.1;
+      is = sym (end_here (length rows) c.loop-step._step rows c.loop-step.at (omega arith) (omega arith)) ∙ c.loop-step.invariant.1;
       within = c.loop-step.invariant.0;
     }
 
 pub loop-step-preserved : goal.loop-step-preserved
 loop-step-preserved c =
     let rows = c.args.rows.now in
-    (omega arith, sym (end_next (length rows) c.loop-step.-step rows c.loop-step.at (omega arith) (omega arith)) ∙ c.loop-step.invariant.1)
+    (omega arith, sym (end_next (length rows) c.loop-step._step rows c.loop-step.at (omega arith) (omega arith)) ∙ c.loop-step.invariant.1)

@@ -19,30 +19,30 @@ returns-then-deep c σ h =
     let e = c.args.entry in
     sym (refused_held (memory c.args.self.now) σ e h true false true _ _ _ (sym c.named.ensures ∙ c.if-not-named.false) (sym c.used.ensures ∙ c.if-used.false) (sym c.deep.ensures ∙ c.if-deep.true) refl refl refl)
 
-pub returns-then-no-room : goal.returns-then-no-room
-returns-then-no-room c σ h =
+pub returns-then-no_room : goal.returns-then-no_room
+returns-then-no_room c σ h =
     let e = c.args.entry in
-    sym (refused_held (memory c.args.self.now) σ e h true false false true _ _ (sym c.named.ensures ∙ c.if-not-named.false) (sym c.used.ensures ∙ c.if-used.false) (sym c.deep.ensures ∙ c.if-deep.false) (sym c.no-room.ensures ∙ c.if-no-room.true) refl refl)
+    sym (refused_held (memory c.args.self.now) σ e h true false false true _ _ (sym c.named.ensures ∙ c.if-not-named.false) (sym c.used.ensures ∙ c.if-used.false) (sym c.deep.ensures ∙ c.if-deep.false) (sym c.no_room.ensures ∙ c.if-no_room.true) refl refl)
 
-pub returns-then-is-misplaced : goal.returns-then-is-misplaced
-returns-then-is-misplaced c σ h =
+pub returns-then-is_misplaced : goal.returns-then-is_misplaced
+returns-then-is_misplaced c σ h =
     let e = c.args.entry in
     let i = c.innermost-open.ensures σ h in
-    let place : misplaced (top_of σ) σ.opened e ≡ true = ap (λ t. misplaced t σ.opened e) (sym i.1) ∙ ap (λ o. misplaced c.innermost-open.result.1 o e) (sym i.0) ∙ sym c.is-misplaced.ensures ∙ c.if-is-misplaced.true in
-    sym (refused_held (memory c.args.self.now) σ e h true false false false true _ (sym c.named.ensures ∙ c.if-not-named.false) (sym c.used.ensures ∙ c.if-used.false) (sym c.deep.ensures ∙ c.if-deep.false) (sym c.no-room.ensures ∙ c.if-no-room.false) place refl)
+    let place : misplaced (top_of σ) σ.opened e ≡ true = ap (λ t. misplaced t σ.opened e) (sym i.1) ∙ ap (λ o. misplaced c.innermost-open.result.1 o e) (sym i.0) ∙ sym c.is_misplaced.ensures ∙ c.if-is_misplaced.true in
+    sym (refused_held (memory c.args.self.now) σ e h true false false false true _ (sym c.named.ensures ∙ c.if-not-named.false) (sym c.used.ensures ∙ c.if-used.false) (sym c.deep.ensures ∙ c.if-deep.false) (sym c.no_room.ensures ∙ c.if-no_room.false) place refl)
 
-pub returns-then-is-crowded : goal.returns-then-is-crowded
-returns-then-is-crowded c σ h =
+pub returns-then-is_crowded : goal.returns-then-is_crowded
+returns-then-is_crowded c σ h =
     let e = c.args.entry in
     let i = c.innermost-open.ensures σ h in
-    let place : misplaced (top_of σ) σ.opened e ≡ false = ap (λ t. misplaced t σ.opened e) (sym i.1) ∙ ap (λ o. misplaced c.innermost-open.result.1 o e) (sym i.0) ∙ sym c.is-misplaced.ensures ∙ c.if-is-misplaced.false in
-    let crowd : crowded σ.opened e ≡ true = ap (λ o. crowded o e) (sym i.0) ∙ sym c.is-crowded.ensures ∙ c.if-is-crowded.true in
-    sym (refused_held (memory c.args.self.now) σ e h true false false false false true (sym c.named.ensures ∙ c.if-not-named.false) (sym c.used.ensures ∙ c.if-used.false) (sym c.deep.ensures ∙ c.if-deep.false) (sym c.no-room.ensures ∙ c.if-no-room.false) place crowd)
+    let place : misplaced (top_of σ) σ.opened e ≡ false = ap (λ t. misplaced t σ.opened e) (sym i.1) ∙ ap (λ o. misplaced c.innermost-open.result.1 o e) (sym i.0) ∙ sym c.is_misplaced.ensures ∙ c.if-is_misplaced.false in
+    let crowd : crowded σ.opened e ≡ true = ap (λ o. crowded o e) (sym i.0) ∙ sym c.is_crowded.ensures ∙ c.if-is_crowded.true in
+    sym (refused_held (memory c.args.self.now) σ e h true false false false false true (sym c.named.ensures ∙ c.if-not-named.false) (sym c.used.ensures ∙ c.if-used.false) (sym c.deep.ensures ∙ c.if-deep.false) (sym c.no_room.ensures ∙ c.if-no_room.false) place crowd)
 
 pub returns : goal.returns
 returns c σ h =
     let e = c.args.entry in
     let i = c.innermost-open.ensures σ h in
-    let place : misplaced (top_of σ) σ.opened e ≡ false = ap (λ t. misplaced t σ.opened e) (sym i.1) ∙ ap (λ o. misplaced c.innermost-open.result.1 o e) (sym i.0) ∙ sym c.is-misplaced.ensures ∙ c.if-is-misplaced.false in
-    let crowd : crowded σ.opened e ≡ false = ap (λ o. crowded o e) (sym i.0) ∙ sym c.is-crowded.ensures ∙ c.if-is-crowded.false in
-    sym (refused_held (memory c.args.self.now) σ e h true false false false false false (sym c.named.ensures ∙ c.if-not-named.false) (sym c.used.ensures ∙ c.if-used.false) (sym c.deep.ensures ∙ c.if-deep.false) (sym c.no-room.ensures ∙ c.if-no-room.false) place crowd)
+    let place : misplaced (top_of σ) σ.opened e ≡ false = ap (λ t. misplaced t σ.opened e) (sym i.1) ∙ ap (λ o. misplaced c.innermost-open.result.1 o e) (sym i.0) ∙ sym c.is_misplaced.ensures ∙ c.if-is_misplaced.false in
+    let crowd : crowded σ.opened e ≡ false = ap (λ o. crowded o e) (sym i.0) ∙ sym c.is_crowded.ensures ∙ c.if-is_crowded.false in
+    sym (refused_held (memory c.args.self.now) σ e h true false false false false false (sym c.named.ensures ∙ c.if-not-named.false) (sym c.used.ensures ∙ c.if-used.false) (sym c.deep.ensures ∙ c.if-deep.false) (sym c.no_room.ensures ∙ c.if-no_room.false) place crowd)

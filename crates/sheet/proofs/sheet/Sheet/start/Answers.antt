@@ -11,8 +11,8 @@ use Rattle.sheet.proofs.sheet.Sheet.start.Goals as goal
 pub returns : goal.returns
 returns c =
     let m = memory c.args.self.now in
-    let long = c.is-long.ensures.0 c.if-not-is-long.false in
-    let work = c.is-work-long.ensures.0 c.if-not-is-work-long.false in
+    let long = c.is_long.ensures.0 c.if-not-is_long.false in
+    let work = c.is_work_long.ensures.0 c.if-not-is_work_long.false in
     let some : 0 < length m.nodes.rows = omega (arith, long.nodes) in
     record {
       short = λ n. absurd (n (record { sheet = long; work = work }));

@@ -12,6 +12,6 @@ returns c =
     let asks : entry_of (fields_of c.args.record) ≡ Some e = ap entry_of (sym c.split-made.ensures) ∙ sym c.in-Some.ensures in
     record {
       ready = record { sound = (after c.requires.sound.0 e, c.write.ensures.holds c.requires.sound.0 c.requires.sound.1); long = record { sheet = long_rest _ _ c.write.ensures.rest c.requires.long.sheet; work = c.requires.long.work } };
-      takes = λ σ h. takes_written σ (fields_of c.args.record) e _ _ asks (sym (c.refusal.ensures σ h) ∙ c.in-default-refusal.is) c.in-default-entry.not-List (c.write.ensures.holds σ h);
+      takes = λ σ h. takes_written σ (fields_of c.args.record) e _ _ asks (sym (c.refusal.ensures σ h) ∙ c.in_default-refusal.is) c.in_default-entry.not-List (c.write.ensures.holds σ h);
       keeps = record { rest = c.write.ensures.rest; refused = λ f. absurd (clash (sym f)) };
     }

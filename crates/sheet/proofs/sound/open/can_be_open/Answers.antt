@@ -12,29 +12,29 @@ pub returns-then-at-eq0 : goal.returns-then-at-eq0
 returns-then-at-eq0 c =
     let rows = c.args.nodes.now in
     let few : length rows ≤ 1024 = omega arith in
-    let up = subst (λ (i : ℕ). Rises rows c.args.node c.loop-step.-step i) c.if-at-eq0.true c.loop-step.invariant.0 in
+    let up = subst (λ (i : ℕ). Rises rows c.args.node c.loop-step._step i) c.if-at-eq0.true c.loop-step.invariant.0 in
     record {
-      yes = λ e. rises_all rows few c.args.node c.loop-step.-step (omega arith) up;
+      yes = λ e. rises_all rows few c.args.node c.loop-step._step (omega arith) up;
       no = λ f o h p l e. refl;
     }
 
-pub returns-then-not-is-last : goal.returns-then-not-is-last
-returns-then-not-is-last c =
+pub returns-then-not-is_last : goal.returns-then-not-is_last
+returns-then-not-is_last c =
     let rows = c.args.nodes.now in
     let few : length rows ≤ 1024 = omega arith in
     record {
       yes = λ e. absurd (clash e);
       no = λ f o h p l e.
-          let r = climbs_rung rows few c.args.node c.loop-step.-step c.loop-step.at c.if-at-eq0.false f o h (c.loop-step.invariant.1 f o h p l e) in
-          sym c.if-not-is-last.true ∙ c.is-last.ensures.no r;
+          let r = climbs_rung rows few c.args.node c.loop-step._step c.loop-step.at c.if-at-eq0.false f o h (c.loop-step.invariant.1 f o h p l e) in
+          sym c.if-not-is_last.true ∙ c.is_last.ensures.no r;
     }
 
 pub loop-step-preserved : goal.loop-step-preserved
 loop-step-preserved c =
     let rows = c.args.nodes.now in
     let few : length rows ≤ 1024 = omega arith in (
-      rises_more rows few c.args.node c.loop-step.-step c.loop-step.at (c.is-last.ensures.yes c.if-not-is-last.false) c.loop-step.invariant.0,
-      λ f o h p l e. climbs_more rows few c.args.node c.loop-step.-step c.loop-step.at c.if-at-eq0.false f o h (c.loop-step.invariant.1 f o h p l e),
+      rises_more rows few c.args.node c.loop-step._step c.loop-step.at (c.is_last.ensures.yes c.if-not-is_last.false) c.loop-step.invariant.0,
+      λ f o h p l e. climbs_more rows few c.args.node c.loop-step._step c.loop-step.at c.if-at-eq0.false f o h (c.loop-step.invariant.1 f o h p l e),
     )
 
 pub returns : goal.returns

@@ -4,7 +4,7 @@ use Rattle.sheet.specs.Planted.{statuses_of}
 use Rattle.sheet.specs.Fitting.{Marked, may_open, node_at}
 use Rattle.sheet.proofs.Openings.{as_long, named_there, marked_more, marked_past, marked_not, opens_none}
 use Rattle.sheet.proofs.sound.openers.mark_all.Goals as goal
-use Rattle.sheet.proofs.sound.openers.mark_all.Goals.{in-Scope+else-not-mark, in-default}
+use Rattle.sheet.proofs.sound.openers.mark_all.Goals.{in-Scope+else-not-mark, in_default}
 
 pub returns-then-not-mark : goal.returns-then-not-mark
 returns-then-not-mark c =
@@ -25,7 +25,7 @@ loop-row-preserved c =
     let rows = c.args.nodes.now in
     let ss = statuses_of c.args.scopes.now in
     let i = c.loop-row.row-index in
-    elim c.match-made-by.branch [
+    elim c.match-made_by.branch [
       | in-Scope+else-not-mark w ↦
           let j = w.in-Scope.scope in
           let is = sym w.in-Scope.ensures in
@@ -33,7 +33,7 @@ loop-row-preserved c =
           let allowed = sym {b = may_open ss j c.loop-row.marks} w.if-not-mark.ensures.may in
           subst (λ (m : List Bool). Marked rows ss (i + 1) m) (sym (w.marks-is ∙ w.mark.ensures.marks))
           (marked_more rows ss c.loop-row.marks i c.loop-row.invariant j is there (omega (arith, as_long c.args.scopes.now, c.requires.few, c.loop-row.auto.marks)) allowed)
-      | in-default w ↦
+      | in_default w ↦
           subst (λ (m : List Bool). Marked rows ss (i + 1) m) (sym w.marks-is)
-          (marked_past rows ss c.loop-row.marks i c.loop-row.invariant (opens_none (node_at rows i) (λ j e. w.in-default.not-Scope j (c.made-by.ensures ∙ e))))
+          (marked_past rows ss c.loop-row.marks i c.loop-row.invariant (opens_none (node_at rows i) (λ j e. w.in_default.not-Scope j (c.made_by.ensures ∙ e))))
     ]

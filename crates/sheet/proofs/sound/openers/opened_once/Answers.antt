@@ -3,8 +3,8 @@ use Rattle.sheet.specs.Planted.{statuses_of}
 use Rattle.sheet.proofs.Openings.{as_long, marked_first, marked_all, all_marked}
 use Rattle.sheet.proofs.sound.openers.opened_once.Goals as goal
 
-pub mark-all-requires : goal.mark-all-requires
-mark-all-requires c =
+pub mark_all-requires : goal.mark_all-requires
+mark_all-requires c =
     let long = as_long c.args.scopes.now in
     record {
       few = c.requires.few;
@@ -12,14 +12,14 @@ mark-all-requires c =
       clear = marked_first c.args.nodes.now (statuses_of c.args.scopes.now) 256 (omega (arith, long, c.requires.few));
     }
 
-pub returns-then-mark-all : goal.returns-then-mark-all
-returns-then-mark-all c =
+pub returns-then-mark_all : goal.returns-then-mark_all
+returns-then-mark_all c =
     let rows = c.args.nodes.now in
     let ss = statuses_of c.args.scopes.now in
     let long = as_long c.args.scopes.now in
-    let marks = c.mark-all.new.marks in
-    let marked = c.mark-all.ensures.yes c.if-mark-all.true in
+    let marks = c.mark_all.new.marks in
+    let marked = c.mark_all.ensures.yes c.if-mark_all.true in
     record {
-      yes = λ e. marked_all rows ss marks marked (λ j l. c.all-marked.ensures.yes e j (omega (arith, long, l)));
-      no = λ h. c.all-marked.ensures.no (λ j l. all_marked rows ss marks marked h j (omega (arith, long, l)));
+      yes = λ e. marked_all rows ss marks marked (λ j l. c.all_marked.ensures.yes e j (omega (arith, long, l)));
+      no = λ h. c.all_marked.ensures.no (λ j l. all_marked rows ss marks marked h j (omega (arith, long, l)));
     }

@@ -13,4 +13,4 @@ returns-in-Node c =
     let made = c.args.row.made in
     let named = node_named c.args.identifiers.now c.args.values.now (statuses_of c.args.scopes.now) in
     let e : entry_of made ≡ Some (entry.Node n) = sym c.in-Some.ensures ∙ ap Some c.in-Node.is in
-    c.node-named.ensures ∙ sym (ap (λ o. is_listed o && (node_listed (node_by o) && named (node_by o))) e ∙ ap (λ b. b && named n) (entered made (entry.Node n) e))
+    c.node_named.ensures ∙ sym (ap (λ o. is_listed o && (node_listed (node_by o) && named (node_by o))) e ∙ ap (λ b. b && named n) (entered made (entry.Node n) e))

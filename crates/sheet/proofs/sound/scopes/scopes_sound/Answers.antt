@@ -10,9 +10,9 @@ use Rattle.sheet.specs.Chains.{next_declaration, next_merged, Chained}
 use Rattle.sheet.specs.Walks.{marked, Loose, JoinedMarked}
 use Rattle.sheet.proofs.Examining.{Examined, unmarked_rows, examined_holds, holds_examined}
 use Rattle.sheet.proofs.sound.scopes.scopes_sound.Goals as goal
-use Rattle.sheet.proofs.sound.scopes.scopes_sound.Goals.{then-not-rows-listed-via-then-not-rows-listed, then-not-rows-listed-via-else-not-rows-listed+then-not-begins-rise}
-use Rattle.sheet.proofs.sound.scopes.scopes_sound.Goals.{then-not-walk-lists-via-then-not-walk-lists, then-not-walk-lists-via-else-not-walk-lists+then-not-loose-end}
-use Rattle.sheet.proofs.sound.scopes.scopes_sound.Goals.{then-not-walk-lists-2-via-then-not-walk-lists-2, then-not-walk-lists-2-via-else-not-walk-lists-2+then-not-loose-end-2}
+use Rattle.sheet.proofs.sound.scopes.scopes_sound.Goals.{then-not-rows_listed-via-then-not-rows_listed, then-not-rows_listed-via-else-not-rows_listed+then-not-begins_rise}
+use Rattle.sheet.proofs.sound.scopes.scopes_sound.Goals.{then-not-walk_lists-via-then-not-walk_lists, then-not-walk_lists-via-else-not-walk_lists+then-not-loose_end}
+use Rattle.sheet.proofs.sound.scopes.scopes_sound.Goals.{then-not-walk_lists-2-via-then-not-walk_lists-2, then-not-walk_lists-2-via-else-not-walk_lists-2+then-not-loose_end-2}
 
 -- the marks that rows which hold Scopes leave
 declared : List Scope → List Bool
@@ -26,45 +26,45 @@ examined : (S : List ScopeRow) (D : List DeclarationRow) (n : ℕ) → (length S
 unfolding declared merged
 examined S D n few ss h k = holds_examined S D n (replicate 1024 false) (replicate 256 false) (unmarked_rows (length D) 1024 few.1) (unmarked_rows (length S) 256 few.0) ss h k
 
-pub returns-then-not-rows-listed : goal.returns-then-not-rows-listed
-returns-then-not-rows-listed c =
+pub returns-then-not-rows_listed : goal.returns-then-not-rows_listed
+returns-then-not-rows_listed c =
     record {
       yes = λ e. absurd (clash e);
       no = λ ss h k.
           let x = examined c.args.scopes.now c.args.declarations.now c.args.dependencies c.requires.few ss h k in
-          absurd (elim c.then-not-rows-listed.branch [
-            | then-not-rows-listed-via-then-not-rows-listed w ↦ both_ways c.rows-listed.result w.if-not-rows-listed.true (c.rows-listed.ensures ∙ x.listed)
-            | then-not-rows-listed-via-else-not-rows-listed+then-not-begins-rise w ↦ both_ways w.begins-rise.result w.if-not-begins-rise.true (w.begins-rise.ensures ∙ x.rising)
+          absurd (elim c.then-not-rows_listed.branch [
+            | then-not-rows_listed-via-then-not-rows_listed w ↦ both_ways c.rows_listed.result w.if-not-rows_listed.true (c.rows_listed.ensures ∙ x.listed)
+            | then-not-rows_listed-via-else-not-rows_listed+then-not-begins_rise w ↦ both_ways w.begins_rise.result w.if-not-begins_rise.true (w.begins_rise.ensures ∙ x.rising)
           ]);
     }
 
-pub returns-then-not-walk-lists : goal.returns-then-not-walk-lists
-returns-then-not-walk-lists c =
+pub returns-then-not-walk_lists : goal.returns-then-not-walk_lists
+returns-then-not-walk_lists c =
     record {
       yes = λ e. absurd (clash e);
       no = λ ss h k.
           let D = c.args.declarations.now in
           let x = examined c.args.scopes.now D c.args.dependencies c.requires.few ss h k in
-          let d = c.walk-lists.ensures.no (declared ss) x.declares in
-          absurd (elim c.then-not-walk-lists.branch [
-            | then-not-walk-lists-via-then-not-walk-lists w ↦ both_ways c.walk-lists.result w.if-not-walk-lists.true d.0
-            | then-not-walk-lists-via-else-not-walk-lists+then-not-loose-end w ↦
-                both_ways w.loose-end.result w.if-not-loose-end.true (w.loose-end.ensures.no (subst (λ (m : List Bool). Loose (next_declaration D) (length D) m) d.1 x.loose))
+          let d = c.walk_lists.ensures.no (declared ss) x.declares in
+          absurd (elim c.then-not-walk_lists.branch [
+            | then-not-walk_lists-via-then-not-walk_lists w ↦ both_ways c.walk_lists.result w.if-not-walk_lists.true d.0
+            | then-not-walk_lists-via-else-not-walk_lists+then-not-loose_end w ↦
+                both_ways w.loose_end.result w.if-not-loose_end.true (w.loose_end.ensures.no (subst (λ (m : List Bool). Loose (next_declaration D) (length D) m) d.1 x.loose))
           ]);
     }
 
-pub returns-then-not-walk-lists-2 : goal.returns-then-not-walk-lists-2
-returns-then-not-walk-lists-2 c =
+pub returns-then-not-walk_lists-2 : goal.returns-then-not-walk_lists-2
+returns-then-not-walk_lists-2 c =
     record {
       yes = λ e. absurd (clash e);
       no = λ ss h k.
           let S = c.args.scopes.now in
           let x = examined S c.args.declarations.now c.args.dependencies c.requires.few ss h k in
-          let m = c.walk-lists-2.ensures.no (merged ss) x.merges in
-          absurd (elim c.then-not-walk-lists-2.branch [
-            | then-not-walk-lists-2-via-then-not-walk-lists-2 w ↦ both_ways c.walk-lists-2.result w.if-not-walk-lists-2.true m.0
-            | then-not-walk-lists-2-via-else-not-walk-lists-2+then-not-loose-end-2 w ↦
-                both_ways w.loose-end-else-not-walk-lists-2.result w.if-not-loose-end-2.true (w.loose-end-else-not-walk-lists-2.ensures.no (subst (λ (m : List Bool). Loose (next_merged S) (length S) m) m.1 x.loose_merged))
+          let m = c.walk_lists-2.ensures.no (merged ss) x.merges in
+          absurd (elim c.then-not-walk_lists-2.branch [
+            | then-not-walk_lists-2-via-then-not-walk_lists-2 w ↦ both_ways c.walk_lists-2.result w.if-not-walk_lists-2.true m.0
+            | then-not-walk_lists-2-via-else-not-walk_lists-2+then-not-loose_end-2 w ↦
+                both_ways w.loose_end-else-not-walk_lists-2.result w.if-not-loose_end-2.true (w.loose_end-else-not-walk_lists-2.ensures.no (subst (λ (m : List Bool). Loose (next_merged S) (length S) m) m.1 x.loose_merged))
           ]);
     }
 
@@ -74,18 +74,18 @@ returns c =
       yes = λ e.
           examined_holds c.args.scopes.now c.args.declarations.now c.args.dependencies (replicate 1024 false) (replicate 256 false)
           (unmarked_rows (length c.args.declarations.now) 1024 c.requires.few.1) (unmarked_rows (length c.args.scopes.now) 256 c.requires.few.0)
-          c.walk-lists.new.marks c.walk-lists-2.new.marks
+          c.walk_lists.new.marks c.walk_lists-2.new.marks
           (record {
-            listed = sym c.rows-listed.ensures ∙ c.if-not-rows-listed.false;
-            rising = sym c.begins-rise.ensures ∙ c.if-not-begins-rise.false;
-            declares = c.walk-lists.ensures.yes c.if-not-walk-lists.false;
-            merges = c.walk-lists-2.ensures.yes c.if-not-walk-lists-2.false;
-            loose = c.loose-end.ensures.yes c.if-not-loose-end.false;
-            loose_merged = c.loose-end-else-not-walk-lists-2.ensures.yes c.if-not-loose-end-2.false;
-            joined = c.joined-marked.ensures.yes e;
+            listed = sym c.rows_listed.ensures ∙ c.if-not-rows_listed.false;
+            rising = sym c.begins_rise.ensures ∙ c.if-not-begins_rise.false;
+            declares = c.walk_lists.ensures.yes c.if-not-walk_lists.false;
+            merges = c.walk_lists-2.ensures.yes c.if-not-walk_lists-2.false;
+            loose = c.loose_end.ensures.yes c.if-not-loose_end.false;
+            loose_merged = c.loose_end-else-not-walk_lists-2.ensures.yes c.if-not-loose_end-2.false;
+            joined = c.joined_marked.ensures.yes e;
           });
       no = λ ss h k.
           let S = c.args.scopes.now in
           let x = examined S c.args.declarations.now c.args.dependencies c.requires.few ss h k in
-          c.joined-marked.ensures.no (subst (λ (m : List Bool). JoinedMarked S m) (c.walk-lists-2.ensures.no (merged ss) x.merges).1 x.joined);
+          c.joined_marked.ensures.no (subst (λ (m : List Bool). JoinedMarked S m) (c.walk_lists-2.ensures.no (merged ss) x.merges).1 x.joined);
     }

@@ -28,7 +28,7 @@ loop-at-preserved g c =
     let next = link_at g.R.Linked.link g.R.Linked.blank c.args.rows.now in
     let e : c.next-at.result ≡ next c.loop-at.at =
     c.next-at.ensures ∙ ap g.R.Linked.link (get_or_read c.args.rows.now c.loop-at.at c.index-rows-k.result c.if-k-rows.false c.index-rows-k.is g.R.Linked.blank) in (
-      c.next-at.type-inv,
+      c.next-at.type_inv,
       record {
         whole = λ left h. c.loop-at.invariant.1.whole left (walked_on next _ c.loop-at.at c.next-at.result c.loop-at.marks left c.if-k-rows.false c.if-marks-k.false e h);
         rest = λ left h.

@@ -7,15 +7,15 @@ use Rattle.sheet.specs.Walks.{WalkedAll, link_at}
 use Rattle.sheet.proofs.Walking.{all_none, all_end, all_on, all_back}
 use Rattle.sheet.proofs.sound.scopes.walk_lists.Goals as goal
 
-pub returns-then-not-walk-list : goal.returns-then-not-walk-list
-returns-then-not-walk-list g c =
+pub returns-then-not-walk_list : goal.returns-then-not-walk_list
+returns-then-not-walk_list g c =
     record {
       yes = λ e. absurd (clash e);
       no = λ left h.
           let S = c.args.scopes.now in
           let i = c.loop-scope.scope-index in
           let back = all_back _ _ _ (drop i S) (get_or S i no_scope) (drop (i + 1) S) c.first.result c.loop-scope.marks left (drop_more S i no_scope c.loop-scope-test.true) c.first.ensures (c.loop-scope.invariant.rest left h) in
-          absurd (both_ways c.walk-list.result c.if-not-walk-list.true (c.walk-list.ensures.no back.0 back.1).0);
+          absurd (both_ways c.walk_list.result c.if-not-walk_list.true (c.walk_list.ensures.no back.0 back.1).0);
     }
 
 pub loop-scope-preserved : goal.loop-scope-preserved
@@ -28,10 +28,10 @@ loop-scope-preserved g c =
     record {
       whole = λ left h.
           c.loop-scope.invariant.whole left
-          (all_on next _ n (drop i S) (get_or S i no_scope) (drop (i + 1) S) c.first.result c.loop-scope.marks c.walk-list.new.marks left more c.first.ensures (c.walk-list.ensures.yes c.if-not-walk-list.false) h);
+          (all_on next _ n (drop i S) (get_or S i no_scope) (drop (i + 1) S) c.first.result c.loop-scope.marks c.walk_list.new.marks left more c.first.ensures (c.walk_list.ensures.yes c.if-not-walk_list.false) h);
       rest = λ left h.
           let back = all_back next g.R.Linked.head n (drop i S) (get_or S i no_scope) (drop (i + 1) S) c.first.result c.loop-scope.marks left more c.first.ensures (c.loop-scope.invariant.rest left h) in
-          subst (λ (m : List Bool). WalkedAll next g.R.Linked.head n (drop (i + 1) S) m left) (c.walk-list.ensures.no back.0 back.1).1 back.2;
+          subst (λ (m : List Bool). WalkedAll next g.R.Linked.head n (drop (i + 1) S) m left) (c.walk_list.ensures.no back.0 back.1).1 back.2;
     }
 
 pub returns : goal.returns

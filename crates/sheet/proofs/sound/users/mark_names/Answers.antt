@@ -6,7 +6,7 @@ use Rattle.screen.proofs.Members.{present_more}
 use Rattle.sheet.specs.Walks.{fresh, marked}
 use Rattle.sheet.proofs.Fresh.{fresh_past, fresh_seen, fresh_here}
 use Rattle.sheet.proofs.sound.users.mark_names.Goals as goal
-use Rattle.sheet.proofs.sound.users.mark_names.Goals.{then-k-limit-via-then-k-limit, then-k-limit-via-else-k-limit+then-marks-k, in-Some+else-k-limit+else-marks-k, in-default}
+use Rattle.sheet.proofs.sound.users.mark_names.Goals.{then-k-limit-via-then-k-limit, then-k-limit-via-else-k-limit+then-marks-k, in-Some+else-k-limit+else-marks-k, in_default}
 
 pub returns-then-k-limit : goal.returns-then-k-limit
 returns-then-k-limit c =
@@ -36,8 +36,8 @@ loop-name-preserved c =
             c.loop-name.invariant.1 ∙ ap (fresh n ms) more ∙ fresh_here n ms w.in-Some.k rest w.if-k-limit.false w.if-marks-k.false ∙ ap (λ l. fresh n l rest) (sym w.marks-is),
             c.loop-name.invariant.2 ∙ ap (marked ms) more ∙ ap (λ l. marked l rest) (sym w.marks-is),
           )
-      | in-default w ↦
-          let more = present_more os i _ c.loop-name-test.true w.in-default.is in (
+      | in_default w ↦
+          let more = present_more os i _ c.loop-name-test.true w.in_default.is in (
             omega arith,
             c.loop-name.invariant.1 ∙ ap (fresh n ms) more ∙ ap (λ l. fresh n l rest) (sym w.marks-is),
             c.loop-name.invariant.2 ∙ ap (marked ms) more ∙ ap (λ l. marked l rest) (sym w.marks-is),

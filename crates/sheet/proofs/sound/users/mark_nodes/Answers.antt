@@ -10,18 +10,18 @@ use Rattle.sheet.specs.Walks.{fresh, marked}
 use Rattle.sheet.proofs.Fresh.{part_stops, part_goes, part_marks}
 use Rattle.sheet.proofs.sound.users.mark_nodes.Goals as goal
 
-pub returns-then-not-mark-names : goal.returns-then-not-mark-names
-returns-then-not-mark-names c =
+pub returns-then-not-mark_names : goal.returns-then-not-mark_names
+returns-then-not-mark_names c =
     let n = c.args.limit in
     let ms = c.loop-row.marks in
     let xs = c.args.nodes.now in
     let i = c.loop-row.row-index in
-    let names = ap (λ o. present (o ∷ [])) (c.value-in.ensures ∙ ap value_in c.made-by.ensures) in
+    let names = ap (λ o. present (o ∷ [])) (c.value_in.ensures ∙ ap value_in c.made_by.ensures) in
     record {
       value =
           sym (part_stops n c.args.marks.now ms (gathered names_in (nodes_of xs)) (names_in (node_of (get_or xs i no_node).made)) (gathered names_in (nodes_of (drop (i + 1) xs)))
           (c.loop-row.invariant.1 ∙ at_drop_more (λ l. fresh n ms (gathered names_in (nodes_of l))) xs i no_node c.loop-row-test.true)
-          (ap (fresh n ms) (sym names) ∙ sym c.mark-names.ensures.value ∙ c.if-not-mark-names.true));
+          (ap (fresh n ms) (sym names) ∙ sym c.mark_names.ensures.value ∙ c.if-not-mark_names.true));
       after = λ e. absurd (clash e);
     }
 
@@ -31,14 +31,14 @@ loop-row-preserved c =
     let ms = c.loop-row.marks in
     let xs = c.args.nodes.now in
     let i = c.loop-row.row-index in
-    let names = ap (λ o. present (o ∷ [])) (c.value-in.ensures ∙ ap value_in c.made-by.ensures) in
-    let then = c.mark-names.ensures.after c.if-not-mark-names.false ∙ ap (marked ms) names in (
+    let names = ap (λ o. present (o ∷ [])) (c.value_in.ensures ∙ ap value_in c.made_by.ensures) in
+    let then = c.mark_names.ensures.after c.if-not-mark_names.false ∙ ap (marked ms) names in (
       omega arith,
-      part_goes n c.args.marks.now ms c.mark-names.new.marks (gathered names_in (nodes_of xs)) (names_in (node_of (get_or xs i no_node).made)) (gathered names_in (nodes_of (drop (i + 1) xs)))
+      part_goes n c.args.marks.now ms c.mark_names.new.marks (gathered names_in (nodes_of xs)) (names_in (node_of (get_or xs i no_node).made)) (gathered names_in (nodes_of (drop (i + 1) xs)))
           (c.loop-row.invariant.1 ∙ at_drop_more (λ l. fresh n ms (gathered names_in (nodes_of l))) xs i no_node c.loop-row-test.true)
-          (ap (fresh n ms) (sym names) ∙ sym c.mark-names.ensures.value ∙ c.if-not-mark-names.false)
+          (ap (fresh n ms) (sym names) ∙ sym c.mark_names.ensures.value ∙ c.if-not-mark_names.false)
           then,
-      part_marks c.args.marks.now ms c.mark-names.new.marks (gathered names_in (nodes_of xs)) (names_in (node_of (get_or xs i no_node).made)) (gathered names_in (nodes_of (drop (i + 1) xs)))
+      part_marks c.args.marks.now ms c.mark_names.new.marks (gathered names_in (nodes_of xs)) (names_in (node_of (get_or xs i no_node).made)) (gathered names_in (nodes_of (drop (i + 1) xs)))
           (c.loop-row.invariant.2 ∙ at_drop_more (λ l. marked ms (gathered names_in (nodes_of l))) xs i no_node c.loop-row-test.true)
           then,
     )
