@@ -1,9 +1,7 @@
 -- A good block, and the steps of its cursor.
-use Rattle.std.proofs.Common.{◌≡◌, ℕ, suc, ◌+◌, ◌-◌, ◌*◌, ◌<◌, ◌≤◌, min, Bool, true, false, cond, not, eqb, ltb, List, [], ◌∷◌, length, take, Some, None, Option, sym, refl, ap, ◌∙◌, arith}
+use Rattle.std.proofs.Common.{◌≡◌, ℕ, suc, ◌+◌, ◌-◌, ◌<◌, ◌≤◌, List, ◌∷◌, length, take, None, ap, arith}
 use Rattle.std.proofs.lemmas.Bool.Decides.{nat_tests}
-use Rattle.block.specs.Block.{fault_in, fault_of, number_in, count_in, check_in, check_of, record_at, records_from}
-use Rattle.block.specs.declared.check.Fault.{Fault}
-use Rattle.block.specs.declared.check.Fault.TheVariants.{Short, Check, Number, Count}
+use Rattle.block.specs.Block.{fault_in, fault_of, number_in, count_in, record_at, records_from}
 
 pub fault_whole : (bytes block : List ℕ) (place : ℕ) → 512 ≤ length bytes → block ≡ take 512 bytes → fault_of bytes place ≡ fault_in block place
 fault_whole bytes block place h e = grind (arith, nat_tests)

@@ -1,5 +1,5 @@
 -- A block of 512 bytes: 31 records of 16 bytes, the block's number at 496, the count of its records at 500, and its check at 508.
-use Rattle.std.specs.Prelude.{◌≡◌, ℕ, zero, suc, ◌+◌, ◌*◌, ◌≤◌, Bool, true, false, cond, not, List, [], ◌∷◌, length, take, drop, Some, None, Option, ◌==◌, nat_lt}
+use Rattle.std.specs.Prelude.{ℕ, zero, suc, ◌+◌, ◌*◌, cond, not, List, [], ◌∷◌, length, take, drop, Some, None, Option, ◌==◌, nat_lt}
 use Rattle.block.specs.Bytes.{u16_at, u32_at}
 use Rattle.block.specs.declared.check.Fault.{Fault}
 use Rattle.block.specs.declared.check.Fault.TheVariants.{Short, Check, Number, Count}

@@ -1,6 +1,6 @@
 -- What a checked block and a cursor hold.
 use Rattle.std.specs.Prelude.{◌≡◌, ℕ, ◌-◌, min, List, take}
-use Rattle.block.specs.Block.{records_from, count_in, records_of}
+use Rattle.block.specs.Block.{records_from, records_of}
 use Rattle.block.specs.declared.check.Checked.{Checked}
 use Rattle.block.specs.declared.cursor.Cursor.{Cursor}
 

@@ -1,5 +1,5 @@
 -- A filled block: its bytes, that it is good, and that its records come out again.
-use Rattle.std.proofs.Common.{◌≡◌, ℕ, zero, suc, ◌+◌, ◌-◌, ◌*◌, ◌/◌, ◌%◌, ◌^◌, ◌<◌, ◌≤◌, List, [], ◌∷◌, ◌++◌, length, get_or, take, drop, replicate, None, sym, refl, ap, ◌∙◌, subst, append_assoc, mod-eq_of_lt, arith, length-append}
+use Rattle.std.proofs.Common.{◌≡◌, ℕ, zero, suc, ◌+◌, ◌-◌, ◌*◌, ◌/◌, ◌%◌, ◌<◌, ◌≤◌, List, [], ◌∷◌, ◌++◌, length, get_or, take, drop, replicate, None, sym, refl, ap, ◌∙◌, append_assoc, mod-eq_of_lt, arith, length-append}
 use native.Mathlib.Nat.{div-div-eq-div-mul}
 use lib.ListN.{length-replicate}
 use Rattle.std.proofs.lemmas.List.{take_at, take_all, drop_at, get_or-append-add, replicate-append-replicate, append-nil}
@@ -7,7 +7,7 @@ use Rattle.std.proofs.lemmas.List.Elements.{All-head, All-tail}
 use Rattle.std.proofs.lemmas.Nat.{div-add-mod', div_below}
 use Rattle.std.proofs.lemmas.Bool.Decides.{nat_tests}
 use Rattle.block.specs.Bytes.{u16_at, u32_at}
-use Rattle.block.specs.Block.{weighed, check_of, check_in, number_in, count_in, fault_of, fault_in, record_at, records_from, records_of}
+use Rattle.block.specs.Block.{weighed, check_of, check_in, number_in, count_in, fault_of, records_from, records_of}
 use Rattle.encode.specs.Filled.{Sixteens, in_row, two_bytes, four_bytes, summed_of, block_of}
 use Rattle.encode.proofs.Rows.{put_next, row_length}
 

@@ -1,5 +1,5 @@
 -- The blocks of any number of records, 31 to a block, and the records in any number of blocks.
-use Rattle.std.specs.Prelude.{◌≡◌, ℕ, zero, suc, ◌+◌, ◌*◌, ◌/◌, ◌<◌, List, [], ◌∷◌, ◌++◌, length, take, drop, None}
+use Rattle.std.specs.Prelude.{◌≡◌, ℕ, zero, suc, ◌+◌, ◌*◌, ◌/◌, ◌<◌, List, [], ◌++◌, length, take, drop, None}
 use Rattle.block.specs.Block.{fault_of, records_of}
 use Rattle.encode.specs.Filled.{block_of}
 use Rattle.encode.specs.declared.blocks.Refusal.{Refusal}

@@ -1,5 +1,5 @@
 -- A block as it is written from its records: every byte of it.
-use Rattle.std.specs.Prelude.{◌≡◌, ℕ, ◌+◌, ◌-◌, ◌*◌, ◌/◌, ◌%◌, List, [], ◌∷◌, ◌++◌, All, length, replicate}
+use Rattle.std.specs.Prelude.{◌≡◌, ℕ, ◌-◌, ◌*◌, ◌/◌, ◌%◌, List, [], ◌∷◌, ◌++◌, All, length, replicate}
 use Rattle.std.specs.List.{flat_map}
 use Rattle.block.specs.Block.{weighed}
 

@@ -1,9 +1,9 @@
 -- The values that kept rows name are put.
-use Rattle.std.proofs.Common.{◌≡◌, ℕ, ◌+◌, ◌<◌, ◌≤◌, Bool, true, false, not, ◌&&◌, eqb, ltb, List, [], ◌∷◌, ◌++◌, length, Some, None, Option, sym, refl, ap, ◌∙◌, arith, length-append}
+use Rattle.std.proofs.Common.{◌≡◌, ℕ, ◌+◌, ◌≤◌, Bool, true, ◌&&◌, ltb, List, [], ◌∷◌, ◌++◌, length, Some, None, Option, refl, ◌∙◌, arith, length-append}
 use Rattle.std.proofs.lemmas.Bool.{and_parts, and_from, ltb-true, lt-ltb}
-use Rattle.screen.specs.Lists.{every, is_put, gathered, present, span}
+use Rattle.screen.specs.Lists.{every, is_put, gathered, present}
 use Rattle.screen.specs.Values.{value_of, children_of}
-use Rattle.screen.specs.Named.{operand, optional_operand, optional_put, inner, value_named, node_named, no_value}
+use Rattle.screen.specs.Named.{operand, optional_put, inner, value_named, node_named}
 use Rattle.screen.specs.Users.{names_of, names_in, namings}
 use Rattle.screen.specs.WellFormed.{is_listed, node_listed, value_kept, values_kept, nodes_kept}
 use Rattle.screen.specs.Entries.{entry_of}

@@ -1,5 +1,5 @@
 -- A sheet that records build is well-formed: a new one is, and each accepted entry keeps it so.
-use Rattle.std.proofs.Common.{◌≡◌, ℕ, zero, suc, ◌+◌, ◌-◌, ◌<◌, ◌≤◌, Bool, true, false, cond, not, ◌&&◌, List, [], ◌∷◌, length, get_or, set, Some, None, Option, sym, refl, ap, ◌∙◌, subst, arith, length-set}
+use Rattle.std.proofs.Common.{◌≡◌, ℕ, zero, suc, ◌+◌, ◌-◌, ◌<◌, ◌≤◌, true, false, not, ◌&&◌, List, [], ◌∷◌, length, get_or, set, Some, None, Option, sym, refl, ap, ◌∙◌, subst, arith, length-set}
 use Rattle.std.proofs.lemmas.List.{length_push}
 use Rattle.std.proofs.lemmas.Bool.{and_parts, not-false, ltb-true, leb-false, false≢true}
 use Rattle.block.specs.declared.record.Record.{Record}
@@ -9,7 +9,7 @@ use Rattle.screen.specs.Forest.{Forest, bare, tree, body, cnt, can_hold}
 use Rattle.screen.specs.State.{State, Rows, Scope, new}
 use Rattle.screen.specs.Statuses.{is_unused}
 use Rattle.screen.specs.Standing.{reached, opening, openings, Labelled, Standing}
-use Rattle.screen.specs.Named.{node_named, named}
+use Rattle.screen.specs.Named.{node_named}
 use Rattle.screen.specs.Users.{names_in, namings, taken}
 use Rattle.screen.specs.Refused.{statuses, top_of, refused_of}
 use Rattle.screen.specs.Step.{also, reassigned, declaring, altered_last, after, taking, asked, step}

@@ -1,7 +1,7 @@
 -- What turns of a Merge leave alone, and what only grows.
 use Rattle.std.proofs.Common.{◌≡◌, ℕ, ◌+◌, ◌≤◌, max, eqb, ◌⊎◌, List, [], ◌∷◌, refl, ap, ◌∙◌, inl, inr, arith}
 use Rattle.std.proofs.lemmas.Bool.{eqb-true, ne_eqb, cond_both}
-use Rattle.screen.specs.Forest.{Forest, bare, tree, ◌⊕◌, same}
+use Rattle.screen.specs.Forest.{Forest, bare, tree, ◌⊕◌}
 use Rattle.screen.specs.Standing.{openings}
 use Rattle.screen.specs.Found.{Found}
 use Rattle.screen.specs.Course.{Course, Join}

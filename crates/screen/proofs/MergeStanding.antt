@@ -5,7 +5,7 @@ use Rattle.std.proofs.lemmas.Bool.{eqb-true, cases_lt, cases_eq}
 use Rattle.screen.specs.Forest.{Forest, bare, tree, same, cnt, body}
 use Rattle.screen.specs.Open.{opens}
 use Rattle.screen.specs.Rules.{Meaning}
-use Rattle.screen.specs.State.{State, Scope}
+use Rattle.screen.specs.State.{State}
 use Rattle.screen.specs.Statuses.{is_standing, is_gone}
 use Rattle.screen.specs.Standing.{Standing, Labelled, opening, openings, reached}
 use Rattle.screen.specs.Refused.{statuses}

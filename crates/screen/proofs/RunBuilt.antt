@@ -1,12 +1,12 @@
 -- What is built on the tables so far is a run's step, but for a Merge.
-use Rattle.std.proofs.Common.{◌≡◌, ℕ, Bool, true, false, ◌&&◌, eqb, leb, None, Option, refl, ap}
+use Rattle.std.proofs.Common.{◌≡◌, true, false, ◌&&◌, eqb, leb, None, refl, ap}
 use Rattle.std.proofs.lemmas.Bool.{and_parts, eqb-true}
 use Rattle.block.specs.declared.record.Record.{Record}
 use Rattle.screen.specs.Entries.{entry_of, blank}
 use Rattle.screen.specs.Rules.{Meaning}
 use Rattle.screen.specs.State.{State}
 use Rattle.screen.specs.Step.{asked, step}
-use Rattle.screen.specs.Runs.{answered, Stepped, is_merge, chosen, step_if, step_by}
+use Rattle.screen.specs.Runs.{answered, is_merge, chosen, step_if, step_by}
 use Rattle.screen.specs.RunLaws.{StepButMerge}
 
 -- no other record has the tag 13

@@ -11,7 +11,7 @@ use Rattle.screen.specs.State.{State, new}
 use Rattle.screen.specs.Step.{taking, asked, step}
 use Rattle.screen.specs.Merge.{merge_of}
 use Rattle.screen.specs.WellFormed.{WellFormed}
-use Rattle.screen.specs.Runs.{Reply, answered, merged, is_merge, merge_at, step_if, Asked, rule_of, step_of, after_from, after_run}
+use Rattle.screen.specs.Runs.{answered, merged, is_merge, merge_at, step_if, Asked, rule_of, step_of, after_from, after_run}
 use Rattle.screen.specs.RunLaws.{Within, MergeLawful, AlwaysFormed, MergesAlwaysLawful}
 use Rattle.screen.specs.declared.node.Node.{Node}
 use Rattle.screen.specs.declared.node.Node.TheVariants as node

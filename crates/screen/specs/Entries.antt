@@ -1,5 +1,5 @@
 -- What a record asks for. A record whose fields break their list asks for nothing, and is refused.
-use Rattle.std.specs.Prelude.{ℕ, Bool, true, false, cond, not, ◌&&◌, ◌||◌, List, [], ◌∷◌, Some, None, Option, ◌==◌, nat_le, nat_lt}
+use Rattle.std.specs.Prelude.{ℕ, Bool, cond, ◌&&◌, ◌||◌, Some, None, Option, ◌==◌, nat_le, nat_lt}
 use Rattle.block.specs.declared.record.Record.{Record}
 use Rattle.screen.specs.Values.{optional}
 use Rattle.screen.specs.declared.node.Node.{Node}

@@ -1,12 +1,11 @@
 -- Whether the rows that an entry names are put, and of the right kind.
-use Rattle.std.specs.Prelude.{ℕ, Bool, true, false, cond, not, ◌&&◌, List, [], ◌∷◌, length, Some, None, Option, ◌==◌, slice_index_or}
+use Rattle.std.specs.Prelude.{ℕ, Bool, true, not, ◌&&◌, List, Some, None, Option, ◌==◌, slice_index_or}
 use Rattle.screen.specs.Lists.{is_put, span}
 use Rattle.screen.specs.Values.{value_of}
 use Rattle.screen.specs.State.{Rows}
 use Rattle.screen.specs.declared.rows.IdentifierRow.{IdentifierRow}
 use Rattle.screen.specs.declared.rows.ReadRow.{ReadRow}
 use Rattle.screen.specs.declared.rows.ValueRow.{ValueRow}
-use Rattle.screen.specs.declared.value.Reads.{Reads}
 use Rattle.screen.specs.declared.value.Value.{Value}
 use Rattle.screen.specs.declared.value.Value.TheVariants as value
 use Rattle.screen.specs.declared.node.Node.{Node}

@@ -1,7 +1,7 @@
 -- When an entry is refused, each reason by itself; the first that fits is the answer.
-use Rattle.std.specs.Prelude.{ℕ, ◌-◌, Bool, true, false, cond, not, ◌&&◌, ◌||◌, List, [], ◌∷◌, map, length, Some, None, Option, ◌==◌, nat_le, nat_lt, slice_index_or}
+use Rattle.std.specs.Prelude.{ℕ, ◌-◌, Bool, false, cond, not, ◌&&◌, List, [], ◌∷◌, map, length, Some, None, Option, ◌==◌, nat_le, nat_lt, slice_index_or}
 use Rattle.screen.specs.Forest.{can_hold, is_add}
-use Rattle.screen.specs.Open.{Spot, innermost}
+use Rattle.screen.specs.Open.{innermost}
 use Rattle.screen.specs.State.{State, Rows, Scope}
 use Rattle.screen.specs.Statuses.{is_unused}
 use Rattle.screen.specs.Named.{named}

@@ -1,5 +1,5 @@
 -- What is true of a sheet's tree, beside its nodes and how its Scopes stand.
-use Rattle.std.specs.Prelude.{◌≡◌, ℕ, ◌+◌, ◌<◌, ◌≤◌, Bool, true, false, cond, List, length, slice_index_or}
+use Rattle.std.specs.Prelude.{◌≡◌, ℕ, ◌+◌, ◌<◌, ◌≤◌, true, cond, List, length, slice_index_or}
 use Rattle.screen.specs.Forest.{Forest, bare, tree, body, cnt, same, held, shallow}
 use Rattle.screen.specs.Open.{opens}
 use Rattle.screen.specs.Statuses.{is_gone, is_standing}

@@ -1,5 +1,5 @@
 -- One record's step: the answer, and the sheet afterwards.
-use Rattle.std.specs.Prelude.{ℕ, ◌+◌, ◌-◌, Bool, true, false, cond, List, [], ◌∷◌, ◌++◌, map, length, Some, None, Ok, Err, Option, Result, slice_index_or, slice_set}
+use Rattle.std.specs.Prelude.{ℕ, ◌+◌, ◌-◌, true, false, cond, List, [], ◌∷◌, ◌++◌, map, length, Some, None, Ok, Err, Option, Result, slice_index_or, slice_set}
 use Rattle.block.specs.declared.record.Record.{Record}
 use Rattle.screen.specs.Entries.{entry_of}
 use Rattle.screen.specs.Forest.{Forest, is_add}
@@ -9,7 +9,6 @@ use Rattle.screen.specs.Lines.{lines_of}
 use Rattle.screen.specs.Refused.{refused_of}
 use Rattle.screen.specs.declared.node.Node.{Node}
 use Rattle.screen.specs.declared.node.Node.TheVariants as node
-use Rattle.screen.specs.declared.scope.Status.{Status}
 use Rattle.screen.specs.declared.scope.Status.TheVariants.{Unused, Standing}
 use Rattle.screen.specs.declared.rows.TypeRow.{TypeRow}
 use Rattle.screen.specs.declared.rows.IdentifierRow.{IdentifierRow}

@@ -1,6 +1,6 @@
 -- Who uses a value: a value or a node that names it. Each value has one user at most.
-use Rattle.std.specs.Prelude.{ℕ, Bool, true, false, not, ◌&&◌, ◌||◌, List, [], ◌∷◌, ◌++◌, Some, None, Option}
-use Rattle.screen.specs.Lists.{member, distinct, gathered, present}
+use Rattle.std.specs.Prelude.{ℕ, Bool, false, ◌||◌, List, [], ◌∷◌, ◌++◌, Some, None, Option}
+use Rattle.screen.specs.Lists.{member, gathered, present}
 use Rattle.screen.specs.Values.{value_of, children_of}
 use Rattle.screen.specs.declared.rows.ValueRow.{ValueRow}
 use Rattle.screen.specs.declared.node.Node.{Node}

@@ -1,11 +1,11 @@
 -- What is true of every sheet that records build: the clauses of soundness that speak of no link.
-use Rattle.std.specs.Prelude.{◌≡◌, ℕ, ◌<◌, ◌≤◌, Bool, true, false, cond, not, ◌&&◌, leb, List, [], ◌∷◌, ◌++◌, map, length, Some, None, Option, ◌==◌, nat_le, nat_lt, slice_index_or}
+use Rattle.std.specs.Prelude.{◌≡◌, ℕ, ◌<◌, Bool, true, false, ◌&&◌, leb, List, [], ◌∷◌, ◌++◌, map, length, Some, None, Option, ◌==◌, nat_le, nat_lt, slice_index_or}
 use Rattle.block.specs.declared.record.Record.{Record}
-use Rattle.screen.specs.Lists.{every, member, distinct, gathered, is_put}
+use Rattle.screen.specs.Lists.{every, member, distinct, gathered}
 use Rattle.screen.specs.Values.{value_of}
 use Rattle.screen.specs.Entries.{entry_of, order}
-use Rattle.screen.specs.Records.{type_record, identifier_record, path_record, scope_record, dependency_record, declaration_record, read_record, value_record, shape_record}
-use Rattle.screen.specs.State.{State, Rows, Scope, Declaration}
+use Rattle.screen.specs.Records.{type_record, identifier_record, path_record, dependency_record, declaration_record, read_record, value_record, shape_record}
+use Rattle.screen.specs.State.{State, Rows, Scope}
 use Rattle.screen.specs.Statuses.{is_joined}
 use Rattle.screen.specs.Named.{named, value_named, node_named}
 use Rattle.screen.specs.Users.{namings}

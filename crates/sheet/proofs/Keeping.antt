@@ -1,5 +1,5 @@
 -- What a write keeps of the memory.
-use Rattle.std.proofs.Common.{◌≡◌, ℕ, ◌-◌, ◌<◌, Bool, true, false, cond, eqb, length, get_or, drop, sym, refl, ◌∙◌, subst, arith, rules}
+use Rattle.std.proofs.Common.{◌≡◌, ℕ, ◌<◌, Bool, true, false, cond, eqb, length, get_or, drop, sym, refl, ◌∙◌, subst, arith, rules}
 use Rattle.std.proofs.lemmas.Bool.{eqb-false}
 use Rattle.block.specs.declared.record.Record.{Record}
 use Rattle.screen.specs.declared.entry.Put.{Put}

@@ -1,11 +1,10 @@
 -- The node rows, each by itself: the body's record, and the test over the rest.
-use Rattle.std.proofs.Common.{◌≡◌, ℕ, ◌<◌, Bool, true, false, ◌&&◌, List, [], ◌∷◌, map, length, drop, sym, refl, ap, ◌∙◌, arith}
+use Rattle.std.proofs.Common.{◌≡◌, ◌<◌, true, ◌&&◌, List, [], ◌∷◌, length, drop, sym, refl, ap, ◌∙◌, arith}
 use Rattle.std.proofs.lemmas.Bool.{and_parts, and_from}
 use Rattle.screen.specs.Lists.{every}
 use Rattle.screen.specs.Entries.{entry_of, node_of}
 use Rattle.screen.specs.Named.{node_named}
 use Rattle.screen.specs.WellFormed.{is_listed, node_listed, nodes_kept}
-use Rattle.screen.specs.declared.node.Node.{Node}
 use Rattle.screen.specs.declared.node.Node.TheVariants.{Body}
 use Rattle.screen.specs.declared.rows.IdentifierRow.{IdentifierRow}
 use Rattle.screen.specs.declared.rows.ValueRow.{ValueRow}

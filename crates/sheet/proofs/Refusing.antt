@@ -1,9 +1,8 @@
 -- The first reason that fits, by the tests on the tables.
-use Rattle.std.proofs.Common.{◌≡◌, ℕ, Bool, true, false, cond, not, List, Some, None, Option, sym, refl, ap, ◌∙◌}
+use Rattle.std.proofs.Common.{◌≡◌, Bool, cond, not, List, Some, None, Option, sym, ap, ◌∙◌}
 use Rattle.screen.specs.State.{State, Rows}
 use Rattle.screen.specs.Named.{named}
 use Rattle.screen.specs.Refused.{used, deep, no_room, misplaced, crowded, refused_by, refused_of, top_of, statuses}
-use Rattle.screen.specs.declared.node.Node.{Node}
 use Rattle.screen.specs.declared.scope.Status.{Status}
 use Rattle.screen.specs.declared.entry.Entry.{Entry}
 use Rattle.screen.specs.declared.answer.Refusal.{Refusal}

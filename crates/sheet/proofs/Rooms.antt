@@ -1,5 +1,5 @@
 -- Tables that hold a sheet have room for what it does not refuse.
-use Rattle.std.proofs.Common.{◌≡◌, ℕ, ◌-◌, ◌<◌, ◌≤◌, true, false, ltb, leb, List, length, get_or, None, sym, ap, ◌∙◌, subst, arith}
+use Rattle.std.proofs.Common.{◌≡◌, ℕ, ◌<◌, ◌≤◌, true, false, ltb, leb, length, get_or, None, sym, ap, ◌∙◌, subst, arith}
 use lib.ListN.{length-map}
 use Rattle.std.proofs.lemmas.List.{get_or-take}
 use Rattle.std.proofs.lemmas.Bool.{and_parts, leb-false, ltb-true}
@@ -16,7 +16,7 @@ use Rattle.screen.specs.State.{State}
 use Rattle.screen.specs.Named.{named, part_named, node_named}
 use Rattle.screen.specs.Refused.{statuses, put_full, part_full, full, top_of, refused_of}
 use Rattle.sheet.specs.declared.rows.ScopeRow.{ScopeRow}
-use Rattle.sheet.specs.Tables.{Stored, Memory, items, CountWithin}
+use Rattle.sheet.specs.Tables.{Stored, Memory, items}
 use Rattle.sheet.specs.Chains.{no_scope}
 use Rattle.sheet.specs.Holds.{Holds, declaration_of}
 use Rattle.screen.specs.Entries.{node_of}

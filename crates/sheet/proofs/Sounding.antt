@@ -1,32 +1,26 @@
 -- From the parts of an examination to soundness, and back.
-use Rattle.std.proofs.Common.{◌≡◌, ℕ, zero, suc, ◌<◌, ◌≤◌, Bool, true, false, ◌&&◌, ltb, leb, List, [], ◌∷◌, map, length, get_or, take, replicate, sym, refl, ap, ◌∙◌, subst, arith}
+use Rattle.std.proofs.Common.{◌≡◌, ℕ, zero, suc, ◌<◌, ◌≤◌, Bool, true, false, ◌&&◌, leb, List, [], ◌∷◌, map, length, replicate, sym, refl, ap, ◌∙◌, subst, arith}
 use lib.ListN.{length-map}
 use Rattle.std.proofs.lemmas.Bool.{and_parts, and_from, le-leb, leb-true}
-use Rattle.screen.specs.Lists.{every, distinct}
-use Rattle.screen.specs.Records.{type_record, identifier_record, path_record, dependency_record, declaration_record, read_record, shape_record}
-use Rattle.screen.specs.State.{State, Rows, Scope}
+use Rattle.screen.specs.Lists.{every}
+use Rattle.screen.specs.State.{State, Rows}
 use Rattle.screen.specs.Statuses.{status_of}
 use Rattle.screen.specs.Levels.{levels_of}
 use Rattle.screen.specs.Users.{namings}
 use Rattle.screen.specs.Refused.{statuses}
 use Rattle.screen.specs.Entries.{entry_of, node_of}
 use Rattle.screen.specs.Named.{node_named}
-use Rattle.screen.specs.Forest.{Forest}
-use Rattle.screen.specs.WellFormed.{is_listed, node_listed, kept, fits, values_kept, nodes_kept, RowsKept, ScopesKept, WellFormed}
+use Rattle.screen.specs.WellFormed.{is_listed, node_listed, fits, values_kept, RowsKept, ScopesKept}
 use Rattle.screen.specs.declared.scope.Status.{Status}
-use Rattle.screen.specs.declared.scope.Status.TheVariants.{Unused}
 use Rattle.screen.proofs.Below.{namings_below}
-use Rattle.sheet.specs.declared.rows.ScopeRow.{ScopeRow}
-use Rattle.sheet.specs.declared.rows.DeclarationRow.{DeclarationRow}
 use Rattle.sheet.specs.declared.rows.NodeRow.{NodeRow}
 use Rattle.screen.specs.declared.node.Node.{Node}
 use Rattle.screen.specs.declared.node.Node.TheVariants.{Body}
 use Rattle.screen.specs.declared.rows.IdentifierRow.{IdentifierRow}
 use Rattle.screen.specs.declared.rows.ValueRow.{ValueRow}
-use Rattle.sheet.specs.Tables.{Stored, Memory, items, CountWithin}
-use Rattle.sheet.specs.Chains.{Chained, ScopesHeld, no_scope}
+use Rattle.sheet.specs.Tables.{Memory, items}
 use Rattle.sheet.specs.Planted.{Planted, nodes_of, statuses_of}
-use Rattle.sheet.specs.Holds.{declaration_of, rows_of, Within, RecordsListed, Holds, Sound}
+use Rattle.sheet.specs.Holds.{declaration_of, rows_of, Within, Holds, Sound}
 use Rattle.sheet.specs.Kept.{Long}
 use Rattle.sheet.specs.Walks.{fresh}
 use Rattle.sheet.specs.NodeRows.{node_row_kept, NodesKept}
@@ -36,7 +30,7 @@ use Rattle.sheet.specs.Fitting.{node_at, ScopesNamed}
 use Rattle.sheet.specs.Examined.{Fitted, front_kept, middle_kept, shapes_kept, RowsSound, ScopesSound, TreeSound}
 use Rattle.sheet.proofs.Storing.{items_many}
 use Rattle.sheet.proofs.Accepting.{statuses_are}
-use Rattle.sheet.proofs.Marking.{Plain, plain_fresh, fresh_plain}
+use Rattle.sheet.proofs.Marking.{plain_fresh, fresh_plain}
 use Rattle.sheet.proofs.Examining.{unmarked_rows}
 use Rattle.sheet.proofs.Listing.{named_below}
 use Rattle.sheet.proofs.NodeRowing.{body_made, kept_some, kept_body, kept_rest}

@@ -1,21 +1,18 @@
 -- A new sheet in memory that is long enough.
-use Rattle.std.proofs.Common.{◌≡◌, ℕ, ◌<◌, ◌≤◌, List, [], ◌∷◌, length, take, drop, set, sym, refl, ap, ◌∙◌, subst, arith, length-set}
+use Rattle.std.proofs.Common.{◌≡◌, ◌<◌, List, [], ◌∷◌, length, sym, refl, ap, ◌∙◌, subst, arith, length-set}
 use Rattle.std.proofs.lemmas.List.{take_more_set, drop-set-lt}
 use Rattle.screen.specs.State.{new, new_rows}
 use Rattle.screen.specs.Step.{with_nodes}
-use Rattle.screen.specs.Entries.{node_of}
-use Rattle.screen.specs.Forest.{cnt, body, bare, same}
+use Rattle.screen.specs.Forest.{bare, same}
 use Rattle.screen.specs.Standing.{Standing}
 use Rattle.screen.specs.declared.node.Node.{Node}
-use Rattle.screen.specs.declared.node.Node.TheVariants.{Body}
 use Rattle.screen.proofs.Counts.{same_self}
 use Rattle.screen.proofs.Forming.{formed_new}
 use Rattle.sheet.specs.declared.rows.NodeRow.{NodeRow}
 use Rattle.sheet.specs.Tables.{Memory, items}
-use Rattle.sheet.specs.Links.{Links}
 use Rattle.sheet.specs.Planted.{Planted, nodes_of}
-use Rattle.sheet.specs.Holds.{rows_of, RecordsListed, Holds}
-use Rattle.sheet.specs.Kept.{Long, Rest, RestKept}
+use Rattle.sheet.specs.Holds.{RecordsListed, Holds}
+use Rattle.sheet.specs.Kept.{RestKept}
 use Rattle.sheet.specs.Written.{body_row, cleared}
 use Rattle.sheet.proofs.NodeRowing.{body_made}
 

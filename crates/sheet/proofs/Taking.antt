@@ -1,5 +1,5 @@
 -- One record on tables that hold a sheet.
-use Rattle.std.proofs.Common.{◌≡◌, ℕ, ◌<◌, ◌≤◌, List, [], ◌∷◌, map, length, Some, None, Ok, Err, sym, refl, ap, ◌∙◌, subst, arith}
+use Rattle.std.proofs.Common.{◌≡◌, ℕ, ◌<◌, ◌≤◌, List, [], ◌∷◌, map, length, Some, None, Ok, sym, refl, ap, ◌∙◌, subst, arith}
 use Rattle.screen.specs.State.{State, Scope}
 use Rattle.screen.specs.Forest.{Forest, body, cnt}
 use Rattle.screen.specs.Standing.{openings}

@@ -17,7 +17,7 @@ use Rattle.screen.specs.declared.entry.Entry.{Entry}
 use Rattle.screen.specs.declared.entry.Entry.TheVariants as entry
 use Rattle.screen.specs.Entries.{entry_of, node_of, node_by}
 use Rattle.screen.specs.Forest.{is_add, can_hold}
-use Rattle.screen.specs.Open.{innermost, grow}
+use Rattle.screen.specs.Open.{grow}
 use Rattle.screen.specs.State.{State, Rows, Scope}
 use Rattle.screen.specs.Statuses.{is_unused}
 use Rattle.screen.specs.Standing.{Standing}

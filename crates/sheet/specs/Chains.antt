@@ -1,5 +1,5 @@
 -- Lists in rows that are linked by number, and the Scope rows with theirs. None is 4294967295.
-use Rattle.std.specs.Prelude.{◌≡◌, ℕ, ◌<◌, ◌≤◌, Bool, true, false, cond, List, [], ◌∷◌, length, slice_index_or}
+use Rattle.std.specs.Prelude.{◌≡◌, ℕ, ◌<◌, ◌≤◌, false, cond, List, [], ◌∷◌, length, slice_index_or}
 use Rattle.screen.specs.Lists.{member, gathered}
 use Rattle.screen.specs.State.{Scope}
 use Rattle.screen.specs.Statuses.{status_of}

@@ -1,5 +1,5 @@
 -- What an examination of the tables finds, part by part.
-use Rattle.std.specs.Prelude.{◌≡◌, ℕ, ◌≤◌, Bool, ◌&&◌, List, length}
+use Rattle.std.specs.Prelude.{ℕ, ◌≤◌, Bool, ◌&&◌, List, length}
 use Rattle.screen.specs.Lists.{every}
 use Rattle.screen.specs.Records.{type_record, identifier_record, path_record, dependency_record, declaration_record, read_record, shape_record}
 use Rattle.screen.specs.State.{Rows, Scope}

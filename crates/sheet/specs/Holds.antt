@@ -1,5 +1,5 @@
 -- The tables hold a sheet. They are sound when they hold one.
-use Rattle.std.specs.Prelude.{◌≡◌, ℕ, ◌<◌, ◌≤◌, Bool, true, false, List, [], ◌∷◌, map, length, Some, None, Option}
+use Rattle.std.specs.Prelude.{◌≡◌, true, List, [], ◌∷◌, map}
 use Rattle.screen.specs.Lists.{every}
 use Rattle.screen.specs.State.{State, Rows, Declaration}
 use Rattle.screen.specs.Refused.{statuses}

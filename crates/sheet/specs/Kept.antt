@@ -1,5 +1,5 @@
 -- What a call keeps of the memory.
-use Rattle.std.specs.Prelude.{◌≡◌, ℕ, ◌≤◌, List, length, drop}
+use Rattle.std.specs.Prelude.{◌≡◌, ◌≤◌, length, drop}
 use Rattle.sheet.specs.Tables.{Stored, Memory, WorkMemory}
 use Rattle.sheet.specs.Holds.{Sound}
 

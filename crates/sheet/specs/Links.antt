@@ -3,7 +3,7 @@ use Rattle.std.specs.Prelude.{◌≡◌, ℕ, ◌<◌, List, length, slice_index
 use Rattle.block.specs.declared.record.Record.{Record}
 use Rattle.screen.specs.declared.node.Node.{Node}
 use Rattle.screen.specs.Entries.{node_of}
-use Rattle.screen.specs.Forest.{Forest, bare, tree, body}
+use Rattle.screen.specs.Forest.{Forest, bare, tree}
 use Rattle.sheet.specs.declared.rows.NodeRow.{NodeRow}
 
 -- a row of zeros, which stands for what is not there

@@ -1,6 +1,5 @@
 -- What is true of each node row by itself.
-use Rattle.std.specs.Prelude.{◌≡◌, Bool, true, false, ◌&&◌, List, [], ◌∷◌}
-use Rattle.screen.specs.Lists.{every}
+use Rattle.std.specs.Prelude.{◌≡◌, Bool, true, ◌&&◌, List}
 use Rattle.screen.specs.Entries.{entry_of, node_of}
 use Rattle.screen.specs.Named.{node_named}
 use Rattle.screen.specs.WellFormed.{is_listed, node_listed, nodes_kept}

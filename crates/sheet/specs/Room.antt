@@ -1,5 +1,5 @@
 -- Room for one row more, and what else a write asks of the memory.
-use Rattle.std.specs.Prelude.{◌≡◌, ℕ, ◌<◌, length, ◌≢◌}
+use Rattle.std.specs.Prelude.{ℕ, ◌<◌, length, ◌≢◌}
 use Rattle.screen.specs.declared.entry.Put.{Put}
 use Rattle.screen.specs.declared.entry.Put.TheVariants as put
 use Rattle.screen.specs.declared.entry.Part.{Part}

@@ -1,5 +1,5 @@
 -- What one record does to the memory.
-use Rattle.std.specs.Prelude.{◌≡◌, ℕ, Bool, true, false, List, ◌++◌, length, drop, is_ok, Ok, Err, Result}
+use Rattle.std.specs.Prelude.{◌≡◌, false, List, ◌++◌, drop, is_ok, Ok, Err, Result}
 use Rattle.block.specs.declared.record.Record.{Record}
 use Rattle.screen.specs.State.{State}
 use Rattle.screen.specs.Step.{step, listing}

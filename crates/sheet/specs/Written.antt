@@ -1,5 +1,5 @@
 -- What an accepted entry writes into the memory.
-use Rattle.std.specs.Prelude.{◌≡◌, ℕ, ◌+◌, ◌-◌, cond, List, length, get_or, drop, ◌==◌, slice_index_or, slice_set}
+use Rattle.std.specs.Prelude.{◌≡◌, ℕ, ◌+◌, ◌-◌, cond, length, get_or, drop, ◌==◌, slice_index_or, slice_set}
 use Rattle.block.specs.declared.record.Record.{Record}
 use Rattle.screen.specs.declared.rows.TypeRow.{TypeRow}
 use Rattle.screen.specs.declared.rows.IdentifierRow.{IdentifierRow}

@@ -1,4 +1,4 @@
-use Rattle.std.proofs.Common.{◌≡◌, ◌+◌, ◌*◌, ◌≤◌, get_or, take, sym, ap, ◌∙◌, arith}
+use Rattle.std.proofs.Common.{◌≡◌, get_or, take, ap, ◌∙◌, arith}
 use Rattle.block.specs.Block.{weighed, check_of}
 use Rattle.block.proofs.Sums.{weighed_more, summand}
 use Rattle.block.proofs.check.check_of.Goals as goal

@@ -1,4 +1,4 @@
-use Rattle.std.proofs.Common.{◌≡◌, sym, ap, ◌∙◌, arith}
+use Rattle.std.proofs.Common.{sym, ap, ◌∙◌, arith}
 use Rattle.block.specs.Fields.{fields_of}
 use Rattle.encode.proofs.Joining.{sixteen, from_parts, split_joined, join_split}
 use Rattle.encode.proofs.bytes.join.Goals as goal

@@ -1,4 +1,4 @@
-use Rattle.std.proofs.Common.{◌≡◌, ℕ, ◌+◌, ◌-◌, ◌*◌, ◌<◌, ◌≤◌, min, List, ◌++◌, length, take, drop, replicate, None, sym, refl, ap, ◌∙◌, arith, length-take}
+use Rattle.std.proofs.Common.{◌≡◌, ◌+◌, ◌-◌, ◌*◌, ◌≤◌, ◌++◌, length, take, drop, replicate, sym, ap, ◌∙◌, arith, length-take}
 use Rattle.block.specs.Block.{fault_of, records_of, weighed, check_of}
 use Rattle.encode.specs.Filled.{Sixteens, in_row, two_bytes, four_bytes, summed_of, block_of}
 use Rattle.encode.proofs.Rows.{told_sixteens, sixteens_take}

@@ -1,4 +1,4 @@
-use Rattle.std.proofs.Common.{◌≡◌, ◌+◌, ◌-◌, ◌<◌, true, false, leb, length, get_or, take, drop, sym, refl, ap, ◌∙◌, arith, length-set}
+use Rattle.std.proofs.Common.{◌≡◌, ◌+◌, ◌-◌, ◌<◌, leb, length, get_or, take, sym, ap, ◌∙◌, arith, length-set}
 use borrow.Author.Tests.{clash}
 use Rattle.std.proofs.lemmas.List.{at_drop_all, take_more_set}
 use Rattle.std.proofs.lemmas.Bool.{le-leb}

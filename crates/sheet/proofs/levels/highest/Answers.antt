@@ -1,4 +1,4 @@
-use Rattle.std.proofs.Common.{◌≡◌, ap, arith}
+use Rattle.std.proofs.Common.{ap, arith}
 use Rattle.std.proofs.lemmas.List.{at_drop_all}
 use Rattle.screen.specs.Lists.{present}
 use Rattle.screen.specs.Levels.{highest}

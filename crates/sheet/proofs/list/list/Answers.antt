@@ -1,6 +1,5 @@
-use Rattle.std.proofs.Common.{◌≡◌, ◌+◌, ◌-◌, ◌≢◌, length, set, sym, ap, ◌∙◌, subst}
+use Rattle.std.proofs.Common.{◌≡◌, ◌+◌, ◌-◌, ◌≢◌, length, set, sym, subst}
 use Rattle.screen.specs.declared.answer.Line.{Line}
-use Rattle.screen.specs.declared.node.Node.{Node}
 use Rattle.screen.specs.Entries.{node_of}
 use Rattle.screen.specs.Forest.{Forest}
 use Rattle.screen.specs.Lines.{line_of}

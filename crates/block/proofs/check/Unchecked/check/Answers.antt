@@ -1,4 +1,4 @@
-use Rattle.std.proofs.Common.{◌≡◌, ◌≤◌, min, length, None, sym, refl, ap, ◌∙◌, arith}
+use Rattle.std.proofs.Common.{◌≡◌, ◌≤◌, min, length, None, sym, ap, ◌∙◌, arith}
 use Rattle.block.specs.Block.{fault_in, records_from, records_of, count_in}
 use Rattle.block.proofs.Blocks.{fault_whole, good_number, good_count}
 use Rattle.block.proofs.check.Unchecked.check.Goals as goal

@@ -1,4 +1,4 @@
-use Rattle.std.proofs.Common.{◌≡◌, ℕ, ◌+◌, ◌-◌, ◌*◌, min, List, ◌∷◌, length, take, drop, sym, refl, ap, ◌∙◌, arith}
+use Rattle.std.proofs.Common.{◌≡◌, ◌+◌, ◌-◌, ◌*◌, min, ◌∷◌, take, drop, sym, ap, ◌∙◌, arith}
 use Rattle.block.specs.Block.{record_at, records_from}
 use Rattle.block.proofs.Blocks.{records_step}
 use Rattle.block.proofs.cursor.Cursor.next.Goals as goal

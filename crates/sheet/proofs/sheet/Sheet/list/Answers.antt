@@ -1,4 +1,4 @@
-use Rattle.std.proofs.Common.{◌≡◌, ℕ, ◌≤◌, List, ◌++◌, length, drop, sym, ap, ◌∙◌, subst, arith}
+use Rattle.std.proofs.Common.{◌≡◌, ℕ, List, ◌++◌, length, drop, sym, ap, ◌∙◌, subst, arith}
 use Rattle.screen.specs.Forest.{body}
 use Rattle.screen.specs.Lines.{lines_of}
 use Rattle.screen.specs.Step.{listing}

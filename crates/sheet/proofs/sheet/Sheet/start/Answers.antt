@@ -1,4 +1,4 @@
-use Rattle.std.proofs.Common.{◌≡◌, ◌<◌, length, sym, refl, subst, arith}
+use Rattle.std.proofs.Common.{◌<◌, length, sym, refl, subst, arith}
 use Rattle.screen.specs.State.{new}
 use Rattle.sheet.specs.Tables.{Memory, memory, work_memory}
 use Rattle.sheet.specs.Holds.{Holds}
