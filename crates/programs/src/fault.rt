@@ -4,14 +4,14 @@ use std::alloc::AllocError;
 use std::{fmt, io};
 
 /// A block that is not good, and its place.
-#[derive(Clone, Copy, Debug)]
+#[derive(Clone, Copy)]
 pub struct BadBlock {
     pub fault: block::Fault,
     pub place: u64,
 }
 
 /// Why a run ends before its input does.
-#[derive(Debug, Drop)]
+#[derive(Drop)]
 pub enum Fault {
     /// A block is refused.
     Block(BadBlock),

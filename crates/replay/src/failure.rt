@@ -5,7 +5,7 @@ use std::num::ParseIntError;
 use std::{fmt, io};
 
 /// Why a replay ends without an answer.
-#[derive(Debug, Drop)]
+#[derive(Drop)]
 pub enum Failure {
     /// A line of a case file is not understood.
     Line,

@@ -11,6 +11,7 @@ use case::Case;
 use failure::Failure;
 use play::Outcome;
 use std::fs;
+use std::process::ExitCode;
 
 /// The files of cases.
 const FILES: [&str; 6] = [
@@ -91,8 +92,9 @@ fn replay(rt: &HostRuntime) -> Result<Tally, Failure> {
     Ok(tally)
 }
 
-fn main(rt: HostRuntime) -> Result<(), Failure> {
-    match replay(&rt) {
+/// Replays the cases, prints how many there are, and says on standard error why it could not.
+fn run(rt: &HostRuntime) -> Result<(), Failure> {
+    match replay(rt) {
         Ok(tally) => {
             println!(rt; "{} cases, {} differ", tally.cases, tally.differing)?;
             if tally.differing == 0 {
@@ -105,5 +107,13 @@ fn main(rt: HostRuntime) -> Result<(), Failure> {
             eprintln!(rt; "replay: {failure}")?;
             Err(failure)
         }
+    }
+}
+
+// An error that main returned would be printed a second time, behind the program's own line.
+fn main(rt: HostRuntime) -> ExitCode {
+    match run(&rt) {
+        Ok(()) => ExitCode::SUCCESS,
+        Err(_) => ExitCode::FAILURE,
     }
 }

@@ -6,6 +6,7 @@ use encode::fill_blocks;
 use std::alloc::Global;
 use std::io;
 use std::io::{Read, Write};
+use std::process::ExitCode;
 use text::{TextError, read_text};
 
 /// The program failed, and has said why.
@@ -31,8 +32,9 @@ fn input(rt: &HostRuntime) -> io::Result<String> {
     Ok(text)
 }
 
-fn main(rt: HostRuntime) -> Result<(), Failed> {
-    let text = match input(&rt) {
+/// Writes the blocks, or says on standard error why it could not.
+fn report(rt: &HostRuntime) -> Result<(), Failed> {
+    let text = match input(rt) {
         Ok(text) => text,
         Err(error) => {
             eprintln!(rt; "sheetasm: {error}")?;
@@ -45,5 +47,13 @@ fn main(rt: HostRuntime) -> Result<(), Failed> {
             eprintln!(rt; "sheetasm: {error}")?;
             Err(Failed)
         }
+    }
+}
+
+// An error that main returned would be printed a second time, behind the program's own line.
+fn main(rt: HostRuntime) -> ExitCode {
+    match report(&rt) {
+        Ok(()) => ExitCode::SUCCESS,
+        Err(Failed) => ExitCode::FAILURE,
     }
 }

@@ -3,6 +3,7 @@
 #![tactic(auto)]
 
 use programs::{Fault, run};
+use std::process::ExitCode;
 
 /// Runs standard input. A block that is refused ends the run, and is printed as a record's refusal is.
 fn finish(rt: &HostRuntime) -> Result<(), Fault> {
@@ -15,12 +16,21 @@ fn finish(rt: &HostRuntime) -> Result<(), Fault> {
     }
 }
 
-fn main(rt: HostRuntime) -> Result<(), Fault> {
-    match finish(&rt) {
+/// Runs standard input, and says on standard error why it could not.
+fn report(rt: &HostRuntime) -> Result<(), Fault> {
+    match finish(rt) {
         Ok(()) => Ok(()),
         Err(fault) => {
             eprintln!(rt; "sheetrun: {fault}")?;
             Err(fault)
         }
+    }
+}
+
+// An error that main returned would be printed a second time, behind the program's own line.
+fn main(rt: HostRuntime) -> ExitCode {
+    match report(&rt) {
+        Ok(()) => ExitCode::SUCCESS,
+        Err(_) => ExitCode::FAILURE,
     }
 }

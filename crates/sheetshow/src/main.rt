@@ -9,6 +9,7 @@ use encode::Page;
 use programs::Fault;
 use std::alloc::Global;
 use std::io::Read;
+use std::process::ExitCode;
 use std::{env, io};
 use text::Listing;
 use tree::show_tree;
@@ -65,13 +66,22 @@ fn run(rt: &HostRuntime) -> Result<bool, Fault> {
     Ok(good)
 }
 
-fn main(rt: HostRuntime) -> Result<(), Failed> {
-    match run(&rt) {
+/// Shows standard input, and says on standard error why it could not.
+fn report(rt: &HostRuntime) -> Result<(), Failed> {
+    match run(rt) {
         Ok(true) => Ok(()),
         Ok(false) => Err(Failed),
         Err(fault) => {
             eprintln!(rt; "sheetshow: {fault}")?;
             Err(Failed)
         }
+    }
+}
+
+// An error that main returned would be printed a second time, behind the program's own line.
+fn main(rt: HostRuntime) -> ExitCode {
+    match report(&rt) {
+        Ok(()) => ExitCode::SUCCESS,
+        Err(Failed) => ExitCode::FAILURE,
     }
 }
