@@ -6,12 +6,14 @@ usage: respell.py [--dry] [--pages] [--with FILE] [--leave NAME,NAME..]       at
 
 A name in lower case, that of a value, function, lemma, field, constructor or local variable, gets snake case: faultIn -> fault_in, weighed-push -> weighed_push.
 A name with a capital, that of a type or record, gets camel case: Merged-lawfully -> MergedLawfully. A prime is '.
+A definition that is a fact or a type (its own type ends in Type) gets camel case even where it began small: recordsListed -> RecordsListed.
 One spelling goes to one spelling, in all crates. It writes the table (old, new, what it is, where) to stdout.
+A lemma that would get a definition's name gets _lem behind it, as std's lemmas do. Other names that would fall together stay where a file has both, on a line 'left:';
+where no file has both they are turned, on a line 'look:'. An edit is turned only where its text stands no more.
 --dry writes nothing. --pages turns code spans of README.md and docs/*.md too, but for words that stand in a string of src. --with FILE has rows old, tab, new, that go before the rule
 (tools/names.tsv, with a line of why above each). --leave: these stay.
 A fact that bears the name of a field, as within, is turned only if FILE names it, and then only where it is applied or imported: the field keeps its name.
-What would fall together stays as it is, and is on a line 'left:'. A line 'look:' is a thing to look at.
-Never touched: names that Rattle makes (behind c. l. w. g. goal., declared at goal.x, imported from .Goals or .Given), the source's own names, strings, prose, std's names.
+Never touched: names that Rattle makes (behind c. l. w. g. t. b. goal. given., declared at goal.x, imported from .Goals or .Given), the source's own names, strings, prose, std's names.
 """
 import os, re, subprocess, sys, collections
 

@@ -110,7 +110,7 @@ fn run(rt: &HostRuntime) -> Result<(), Failure> {
     }
 }
 
-// An error that main returned would be printed a second time, behind the program's own line.
+// The runtime prints an error that main returns, and the program has said its own.
 fn main(rt: HostRuntime) -> ExitCode {
     match run(&rt) {
         Ok(()) => ExitCode::SUCCESS,

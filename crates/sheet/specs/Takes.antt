@@ -22,7 +22,7 @@ work_after σ w (Ok (Listed n)) = with_lines w (listing σ ++ drop n w.lines)
 work_after σ w (Err r) = w
 
 -- a record x on tables that hold σ: the answer, the sheet that they hold afterwards, and the work tables
--- `step` is a run's step, Merge excepted: it refuses that with 7 until Merge is built here too (`Step-but-Merge`)
+-- `step` is a run's step, Merge excepted: it refuses that with 7 until Merge is built here too (`StepButMerge`)
 pub record Takes (σ : State) (x : Record) (new : Memory) (work work' : WorkMemory) (r : Result Answer Refusal) : Type 0 where
   pub answer : r ≡ (step σ x).answer
   pub holds : Holds new (step σ x).sheet

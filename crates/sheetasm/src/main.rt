@@ -50,7 +50,7 @@ fn report(rt: &HostRuntime) -> Result<(), Failed> {
     }
 }
 
-// An error that main returned would be printed a second time, behind the program's own line.
+// The runtime prints an error that main returns, and the program has said its own.
 fn main(rt: HostRuntime) -> ExitCode {
     match report(&rt) {
         Ok(()) => ExitCode::SUCCESS,
