@@ -1,2 +1,4 @@
+pub mod Numbers
 mod Sums
 mod Blocks
+mod Fields

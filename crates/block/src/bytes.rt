@@ -3,7 +3,7 @@
 ghost use Rattle.std.specs.Prelude.{◌≡◌, ◌+◌, ◌≤◌, length};
 ghost use Rattle.block.specs.Bytes.{u16_at, u32_at};
 
-/// The two bytes from `at` on.
+/// The two bytes from `at` on. A function for each width: `from_le_bytes` is no trait's, so no type parameter can stand for it.
 pub(crate) fn u16_at(bytes: &[u8], at: usize) -> u16
     requires { at + 2 ≤ length bytes.now }
     ensures { result ≡ u16_at bytes.now at }

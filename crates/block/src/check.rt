@@ -5,37 +5,29 @@ ghost use Rattle.block.specs.Block.{check_of, fault_in, fault_of, fault_number};
 ghost use Rattle.block.specs.Left.{left, records_in, Sealed};
 
 use crate::bytes::{u16_at, u32_at};
-use crate::cursor::{Cursor, MOST};
+use crate::cursor::Cursor;
+use crate::layout::{CHECK_AT, COUNT_AT, MOST, NUMBER_AT, SIZE};
+use thiserror::Error;
 
-/// The bytes of a block.
-pub const SIZE: usize = 512;
-/// The places of a block that its check is over.
-const SUMMED: usize = 508;
-
-/// What is wrong with a block.
-#[derive(Clone, Copy, Debug, PartialEq, Eq)]
+/// What is wrong with a block. A host and a technician know it by its number.
+#[derive(Clone, Copy, Debug, PartialEq, Eq, Error)]
 pub enum Fault {
-    /// The bytes end before the block does.
-    Short,
-    /// The check differs.
-    Check,
-    /// The number is not the block's place.
-    Number,
-    /// The count is above 31.
-    Count,
+    #[error("the bytes end before the block does")]
+    Short = 1,
+    #[error("its check differs from its bytes")]
+    Check = 2,
+    #[error("its number is not its place")]
+    Number = 3,
+    #[error("its count is above 31")]
+    Count = 4,
 }
 
-impl Fault {
-    /// The number that a host and a technician know it by.
-    pub fn number(self) -> u8
-        ensures { result ≡ fault_number self }
-    {
-        match self {
-            Fault::Short => 1,
-            Fault::Check => 2,
-            Fault::Number => 3,
-            Fault::Count => 4,
-        }
+impl From<Fault> for u8 {
+    ghost from_gives = { λ fault number. number ≡ fault_number fault };
+
+    /// The fault's number.
+    fn from(fault: Fault) -> u8 {
+        fault as u8
     }
 }
 
@@ -46,38 +38,41 @@ pub struct Unchecked<'a> {
     place: u64,
 }
 
-/// A good block. It lends its bytes until it is spent for the number of the next one.
+/// A good block. It lends its bytes until it is spent for the number of the next one. The count is the block's own, of the places that hold a
+/// record.
 pub struct Checked<'a> {
-    bytes: &'a [u8; 512],
+    bytes: &'a [u8; SIZE],
     number: u32,
-    count: u16,
+    count: usize,
 }
 
-/// Each byte at the places that are summed, times its place and one more.
-pub fn check_of(bytes: &[u8; 512]) -> u32
+/// Each byte before the check, times its place and one more.
+pub fn check_of(bytes: &[u8; SIZE]) -> u32
     ensures { result ≡ check_of bytes.now }
 {
+    // No chain that ends in `sum`: it asks at once that each product and the whole sum fit (`sum-requires-clause-can` and `-fits` stay open),
+    // which the loop shows a step at a time.
     let mut sum = 0;
-    for i in 0..SUMMED {
-        sum += (i as u32 + 1) * bytes[i] as u32;
+    for (i, byte) in bytes[..CHECK_AT].iter().enumerate() {
+        sum += (i as u32 + 1) * u32::from(*byte);
     }
     sum
 }
 
 /// What is wrong with a whole block at this place.
-fn fault_in(bytes: &[u8; 512], place: u64) -> Option<Fault>
-    ensures { result ≡ fault_in bytes.now place }
+fn fault_in(bytes: &[u8; SIZE], place: u64) -> Result<(), Fault>
+    ensures { MatchResult result (λ _. fault_in bytes.now place ≡ None) (λ f. fault_in bytes.now place ≡ Some f) }
 {
-    if u32_at(bytes, 508) != check_of(bytes) {
-        return Some(Fault::Check);
+    if u32_at(bytes, CHECK_AT) != check_of(bytes) {
+        return Err(Fault::Check);
     }
-    if u64::from(u32_at(bytes, 496)) != place {
-        return Some(Fault::Number);
+    if u64::from(u32_at(bytes, NUMBER_AT)) != place {
+        return Err(Fault::Number);
     }
-    if u16_at(bytes, 500) > MOST {
-        return Some(Fault::Count);
+    if usize::from(u16_at(bytes, COUNT_AT)) > MOST {
+        return Err(Fault::Count);
     }
-    None
+    Ok(())
 }
 
 impl<'a> Unchecked<'a> {
@@ -96,16 +91,14 @@ impl<'a> Unchecked<'a> {
         ensures { MatchResult result (λ b. (fault_of self.entry.bytes.now self.entry.place ≡ None) × Sealed self.entry.bytes.now self.entry.place b)
             (λ f. fault_of self.entry.bytes.now self.entry.place ≡ Some f) }
     {
-        let Some((bytes, _)) = self.bytes.split_first_chunk::<SIZE>() else {
+        let Some(bytes) = self.bytes.first_chunk::<SIZE>() else {
             return Err(Fault::Short);
         };
-        if let Some(fault) = fault_in(bytes, self.place) {
-            return Err(fault);
-        }
+        fault_in(bytes, self.place)?;
         Ok(Checked {
             bytes,
-            number: u32_at(bytes, 496),
-            count: u16_at(bytes, 500),
+            number: u32_at(bytes, NUMBER_AT),
+            count: usize::from(u16_at(bytes, COUNT_AT)),
         })
     }
 }

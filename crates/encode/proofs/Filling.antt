@@ -1,31 +1,16 @@
 -- A filled block: its bytes, that it is good, and that its records come out again.
-use Rattle.std.proofs.Common.{◌≡◌, ℕ, zero, suc, ◌+◌, ◌-◌, ◌*◌, ◌/◌, ◌%◌, ◌<◌, ◌≤◌, List, [], ◌∷◌, ◌++◌, length, get_or, take, drop, replicate, None, sym, refl, ap, ◌∙◌, append_assoc, mod-eq_of_lt, arith, length-append}
-use native.Mathlib.Nat.{div-div-eq-div-mul}
+use Rattle.std.proofs.Common.{◌≡◌, ℕ, zero, suc, ◌+◌, ◌-◌, ◌*◌, ◌%◌, ◌<◌, ◌≤◌, List, [], ◌∷◌, ◌++◌, length, get_or, take, drop, replicate, None, sym, refl, ap, ◌∙◌, append_assoc, arith, length-append}
 use lib.ListN.{length-replicate}
 use Rattle.std.proofs.lemmas.List.{take_at, take_all, drop_at, get_or-append-add, replicate-append-replicate, append-nil}
 use Rattle.std.proofs.lemmas.List.Elements.{All-head, All-tail}
-use Rattle.std.proofs.lemmas.Nat.{div-add-mod', div_below}
 use Rattle.std.proofs.lemmas.Bool.Decides.{nat_tests}
-use Rattle.block.specs.Bytes.{u16_at, u32_at}
+use Rattle.block.specs.Bytes.{u16_at, u32_at, two_bytes, four_bytes}
 use Rattle.block.specs.Block.{weighed, check_of, check_in, number_in, count_in, fault_of, records_from, records_of}
-use Rattle.encode.specs.Filled.{Sixteens, in_row, two_bytes, four_bytes, summed_of, block_of}
+use Rattle.block.proofs.Numbers.{two_back, four_back}
+use Rattle.encode.specs.Filled.{Sixteens, in_row, summed_of, block_of}
 use Rattle.encode.proofs.Rows.{put_next, row_length}
 
--- numbers and their bytes
-
-pub two_back : (n : ℕ) → n < 65536 → n % 256 + n / 256 % 256 * 256 ≡ n
-two_back n h = omega arith
-
-four_sum : (n a b c w x y z : ℕ) → a * 256 + w ≡ n → b * 256 + x ≡ a → c * 256 + y ≡ b → z ≡ c → w + x * 256 + y * 65536 + z * 16777216 ≡ n
-four_sum n a b c w x y z e f g h = omega arith
-
-pub four_back : (n : ℕ) → n < 4294967296 → n % 256 + n / 256 % 256 * 256 + n / 65536 % 256 * 65536 + n / 16777216 % 256 * 16777216 ≡ n
-four_back n h =
-    let b : n / 256 / 256 ≡ n / 65536 = div-div-eq-div-mul n 256 256 in
-    let c : n / 65536 / 256 ≡ n / 16777216 = div-div-eq-div-mul n 65536 256 in
-    let d : n / 16777216 % 256 ≡ n / 16777216 = mod-eq_of_lt (div_below n 16777216 256 (omega arith) h) in
-    four_sum n (n / 256) (n / 65536) (n / 16777216) (n % 256) (n / 256 % 256) (n / 65536 % 256) (n / 16777216 % 256)
-    (div-add-mod' n 256) (ap (λ k. k * 256 + n / 256 % 256) (sym b) ∙ div-add-mod' (n / 256) 256) (ap (λ k. k * 256 + n / 65536 % 256) (sym c) ∙ div-add-mod' (n / 65536) 256) d
+-- numbers in their places
 
 get_d_after : (p ys : List ℕ) (at k : ℕ) → length p ≡ at → get_or (p ++ ys) (at + k) 0 ≡ get_or ys k 0
 get_d_after p ys at k e = ap (λ n. get_or (p ++ ys) (n + k) 0) (sym e) ∙ get_or-append-add p ys k 0

@@ -1,4 +1,3 @@
 mod Rows
 mod Filling
 mod Sequences
-mod Joining

@@ -1,12 +1,9 @@
 -- Records in a row, and zeros that a part is put over.
-use Rattle.std.proofs.Common.{◌≡◌, ℕ, zero, suc, ◌+◌, ◌-◌, ◌*◌, ◌<◌, ◌≤◌, min, List, [], ◌∷◌, ◌++◌, length, get_or, take, drop, replicate, sym, refl, ap, ◌∙◌, append_assoc, arith, length-append, length-take}
-use Rattle.std.proofs.lemmas.List.{take_at, drop_at, drop-replicate, drop-drop, append-nil, take_more}
-use Rattle.std.proofs.lemmas.List.Elements.{All-head, All-tail, All-take, All-drop, All-from_get_or}
+use Rattle.std.proofs.Common.{◌≡◌, ℕ, ◌+◌, ◌-◌, ◌*◌, ◌<◌, ◌≤◌, min, List, [], ◌∷◌, ◌++◌, length, get_or, take, drop, replicate, sym, refl, ap, ◌∙◌, append_assoc, inl, inr, arith, length-append, length-drop, length-take}
+use Rattle.std.proofs.lemmas.List.{take_all, take_at, drop_at, drop-replicate, drop-drop, append-nil, nil_from_length, take_more}
+use Rattle.std.proofs.lemmas.Bool.{cases_lt}
+use Rattle.std.proofs.lemmas.List.Elements.{All-head, All-tail, All-take}
 use Rattle.encode.specs.Filled.{Sixteens, in_row}
-
--- each record of a slice has sixteen bytes, as the checker tells it
-abbrev pub Told : List (List ℕ) → Type 0
-Told xs = (i : ℕ) → i < length xs → length (get_or xs i []) ≡ 16
 
 -- a part put after what is written so far, where zeros stand
 pub put_next : (p part : List ℕ) (at n : ℕ) → length p ≡ at →
@@ -31,21 +28,21 @@ pub row_length : (xs : List (List ℕ)) → Sixteens xs → length (in_row xs) �
 row_length [] h = refl
 row_length (x ∷ xs) h = omega (arith, length-append x (in_row xs), row_length xs (All-tail (λ r. length r ≡ 16) x xs h), All-head (λ r. length r ≡ 16) x xs h)
 
-pub told_sixteens : (xs : List (List ℕ)) → Told xs → Sixteens xs
-told_sixteens xs h = All-from_get_or (λ r. length r ≡ 16) xs [] h
-
-pub sixteens_take : (n : ℕ) (xs : List (List ℕ)) → Sixteens xs → Sixteens (take n xs)
-sixteens_take n xs h = All-take (λ r. length r ≡ 16) n xs h
-
-pub sixteens_drop : (n : ℕ) (xs : List (List ℕ)) → Sixteens xs → Sixteens (drop n xs)
-sixteens_drop n xs h = All-drop (λ r. length r ≡ 16) n xs h
-
 -- the first i records
-pub row_below : (xs : List (List ℕ)) → Told xs → (i : ℕ) → i ≤ length xs → length (in_row (take i xs)) ≡ 16 * i
-row_below xs h i less = omega (arith, row_length (take i xs) (sixteens_take i xs (told_sixteens xs h)), length-take i xs)
+pub row_below : (xs : List (List ℕ)) → Sixteens xs → (i : ℕ) → i ≤ length xs → length (in_row (take i xs)) ≡ 16 * i
+row_below xs h i less = omega (arith, row_length (take i xs) (All-take (λ r. length r ≡ 16) i xs h), length-take i xs)
 
--- as many as there are, of n at most
-pub take_least : (n : ℕ) (xs : List (List ℕ)) → take (min (length xs) n) xs ≡ take n xs
-take_least zero xs = ap (λ k. take k xs) (let e : min (length xs) 0 ≡ 0 = omega arith in e)
-take_least (suc n) [] = ap (λ k. take k []) (let e : min 0 (suc n) ≡ 0 = omega arith in e)
-take_least (suc n) (x ∷ xs) = ap (λ k. take k (x ∷ xs)) (let e : min (suc (length xs)) (suc n) ≡ suc (min (length xs) n) = omega arith in e) ∙ ap (λ z. x ∷ z) (take_least n xs)
+-- the next 31 off the front of what is left
+pub next_portion : (ys part rest : List (List ℕ)) → ys ≡ part ++ rest → length part ≡ min 31 (length ys) → (part ≡ take 31 ys) × (rest ≡ drop 31 ys)
+next_portion ys part rest e size =
+    let sum : length ys ≡ length part + length rest = ap length e ∙ length-append part rest in
+    elim (cases_lt (length ys) 31) [
+      | inl short ↦
+          let none : rest ≡ [] = nil_from_length rest (omega arith) in (
+            sym (take_all 31 ys (omega arith) ∙ e ∙ ap (λ r. part ++ r) none ∙ append-nil part),
+            none ∙ sym (nil_from_length (drop 31 ys) (omega (arith, length-drop 31 ys))),
+          )
+      | inr long ↦
+          let whole : length part ≡ 31 = omega arith in
+          (sym (ap (take 31) e ∙ take_at part rest 31 whole), sym (ap (drop 31) e ∙ drop_at part rest 31 whole))
+    ]

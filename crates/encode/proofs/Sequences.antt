@@ -3,14 +3,14 @@ use Rattle.std.proofs.Common.{◌≡◌, ℕ, zero, suc, ◌+◌, ◌*◌, ◌<�
 use Rattle.std.proofs.lemmas.Bool.{cases_lt}
 use Rattle.std.proofs.lemmas.List.{take_all, drop_at, take-append-le, drop-append-le}
 use Rattle.std.proofs.lemmas.Bool.Decides.{nat_tests}
+use Rattle.std.proofs.lemmas.List.Elements.{All-drop, All-take}
 use Rattle.block.specs.Block.{fault_of, records_of}
 use Rattle.encode.specs.Filled.{Sixteens, block_of}
 use Rattle.encode.specs.Files.{block_count, portion, blocks_of, records_up_to, Holds}
-use Rattle.encode.proofs.Rows.{sixteens_take, sixteens_drop}
 use Rattle.encode.proofs.Filling.{block_length, records_in_lem}
 
 portion_sixteens : (xs : List (List ℕ)) (n : ℕ) → Sixteens xs → Sixteens (portion xs n)
-portion_sixteens xs n h = sixteens_take 31 (drop (31 * n) xs) (sixteens_drop (31 * n) xs h)
+portion_sixteens xs n h = All-take (λ r. length r ≡ 16) 31 (drop (31 * n) xs) (All-drop (λ r. length r ≡ 16) (31 * n) xs h)
 
 portion_few : (xs : List (List ℕ)) (n : ℕ) → length (portion xs n) ≤ 31
 portion_few xs n = omega (arith, length-take 31 (drop (31 * n) xs))

@@ -1,15 +1,8 @@
 -- A block as it is written from its records: every byte of it.
-use Rattle.std.specs.Prelude.{◌≡◌, ℕ, ◌-◌, ◌*◌, ◌/◌, ◌%◌, List, [], ◌∷◌, ◌++◌, All, length, replicate}
+use Rattle.std.specs.Prelude.{◌≡◌, ℕ, ◌-◌, ◌*◌, List, ◌++◌, All, length, replicate}
 use Rattle.std.specs.List.{flat_map}
 use Rattle.block.specs.Block.{weighed}
-
--- a number as two bytes, the lowest first
-abbrev pub two_bytes : ℕ → List ℕ
-two_bytes n = (n % 256) ∷ (n / 256 % 256) ∷ []
-
--- a number as four bytes, the lowest first
-abbrev pub four_bytes : ℕ → List ℕ
-four_bytes n = (n % 256) ∷ (n / 256 % 256) ∷ (n / 65536 % 256) ∷ (n / 16777216 % 256) ∷ []
+use Rattle.block.specs.Bytes.{two_bytes, four_bytes}
 
 -- each record has sixteen bytes
 abbrev pub Sixteens : List (List ℕ) → Type 0

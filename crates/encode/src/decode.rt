@@ -5,19 +5,14 @@ ghost use Rattle.block.specs.Block.{fault_of, records_of};
 ghost use Rattle.block.specs.Left.{records_in};
 
 use crate::fill::fill_block;
-use block::Checked;
+use block::{Checked, RECORD, SIZE};
 use std::alloc::{AllocError, Global};
 
 /// The records of a good block, in order.
-pub fn records_of(heap: Global, block: &Checked) -> Result<Vec<[u8; 16]>, AllocError>
+pub fn records_of(heap: Global, block: &Checked) -> Result<Vec<[u8; RECORD]>, AllocError>
     ensures { IfOk result (λ v. v.items ≡ records_in block.now) }
 {
-    let mut records = Vec::new(heap);
-    let mut cursor = block.records();
-    while let Some(record) = cursor.next() {
-        records.push(record)?;
-    }
-    Ok(records)
+    block.records().collect(heap)
 }
 
 /// Writes the records of a good block into a block again, under this number.
@@ -25,7 +20,7 @@ pub fn round_trip(
     heap: Global,
     block: &Checked,
     number: u32,
-    bytes: &mut [u8; 512],
+    bytes: &mut [u8; SIZE],
 ) -> Result<(), AllocError>
     ensures { OnOk result ((fault_of bytes.new number ≡ None) × (records_of bytes.new ≡ records_in block.now)) }
 {

@@ -4,15 +4,10 @@ ghost use Rattle.std.specs.Prelude.{◌≡◌, ◌+◌, ◌-◌, ◌*◌, ◌≤
 ghost use Rattle.block.specs.Block.{fault_of, records_of};
 ghost use Rattle.encode.specs.Filled.{in_row, block_of};
 
-use block::check_of;
-
-/// The bytes of a record.
-const RECORD: usize = 16;
-/// The most records that a block holds.
-pub const MOST: usize = 31;
+use block::{CHECK_AT, COUNT_AT, MOST, NUMBER_AT, RECORD, SIZE, check_of};
 
 /// Puts the bytes of a part at a place.
-fn put(bytes: &mut [u8; 512], at: usize, part: &[u8])
+fn put(bytes: &mut [u8; SIZE], at: usize, part: &[u8])
     requires { at + length part.now ≤ 512 }
     ensures { bytes.new ≡ take at bytes.old ++ (part.now ++ drop (at + length part.now) bytes.old) }
 {
@@ -20,29 +15,29 @@ fn put(bytes: &mut [u8; 512], at: usize, part: &[u8])
 }
 
 /// Puts the first 31 records from the start on, and zeros after them. Answers how many those are.
-fn put_records(records: &[[u8; 16]], bytes: &mut [u8; 512]) -> usize
+fn put_records(records: &[[u8; RECORD]], bytes: &mut [u8; SIZE]) -> usize
     ensures taken { result ≡ min 31 (length records.now) }
     ensures exact { bytes.new ≡ in_row (take 31 records.now) ++ replicate (512 - 16 * result) 0 }
 {
     bytes.fill(0);
-    let count = records.len().min(MOST);
-    for i in 0..count {
-        put(bytes, RECORD * i, &records[i]);
+    let taken = &records[..records.len().min(MOST)];
+    for (i, record) in taken.iter().enumerate() {
+        put(bytes, RECORD * i, record);
     }
-    count
+    taken.len()
 }
 
 /// Fills a block with the first 31 of the records. Answers how many it took.
-pub fn fill_block(records: &[[u8; 16]], number: u32, bytes: &mut [u8; 512]) -> usize
+pub fn fill_block(records: &[[u8; RECORD]], number: u32, bytes: &mut [u8; SIZE]) -> usize
     ensures taken { result ≡ min 31 (length records.now) }
     ensures exact { bytes.new ≡ block_of number (take 31 records.now) }
     ensures good { fault_of bytes.new number ≡ None }
     ensures same { records_of bytes.new ≡ take 31 records.now }
 {
     let count = put_records(records, bytes);
-    put(bytes, 496, &number.to_le_bytes());
-    put(bytes, 500, &(count as u16).to_le_bytes());
+    put(bytes, NUMBER_AT, &number.to_le_bytes());
+    put(bytes, COUNT_AT, &(count as u16).to_le_bytes());
     let check = check_of(bytes);
-    put(bytes, 508, &check.to_le_bytes());
+    put(bytes, CHECK_AT, &check.to_le_bytes());
     count
 }

@@ -1,70 +1,32 @@
 //! Why a run ends before its input does.
 
+use crate::place::Place;
 use std::alloc::AllocError;
-use std::{fmt, io};
+use std::io;
+use thiserror::Error;
 
-/// A block that is not good, and its place.
-#[derive(Clone, Copy)]
+/// A block that is not good. It ends the run at the place of its first record. Its words stand here alone; where they are written, and what
+/// becomes of the other faults, differs from program to program.
+#[derive(Clone, Copy, Debug, PartialEq, Eq, Error)]
+#[error("refused {} {place}", u8::from(*.fault))]
 pub struct BadBlock {
     pub fault: block::Fault,
-    pub place: u64,
+    pub place: Place,
 }
 
 /// Why a run ends before its input does.
-#[derive(Drop)]
+#[derive(Debug, Drop, Error)]
 pub enum Fault {
     /// A block is refused.
-    Block(BadBlock),
+    #[error(transparent)]
+    Block(#[from] BadBlock),
     /// The input cannot be read, or the output not written.
-    Io(io::Error),
+    #[error("the input cannot be read, or the output not written: {0}")]
+    Io(#[from] io::Error),
     /// There is no memory for the tables.
-    Memory,
+    #[error("there is no memory for the tables")]
+    Memory(#[from] AllocError),
     /// The tables are refused for a new sheet.
-    Tables(screen::Refusal),
-}
-
-impl From<BadBlock> for Fault {
-    fn from(bad: BadBlock) -> Fault {
-        Fault::Block(bad)
-    }
-}
-
-impl From<io::Error> for Fault {
-    fn from(error: io::Error) -> Fault {
-        Fault::Io(error)
-    }
-}
-
-impl From<AllocError> for Fault {
-    fn from(_error: AllocError) -> Fault {
-        Fault::Memory
-    }
-}
-
-impl From<screen::Refusal> for Fault {
-    fn from(refusal: screen::Refusal) -> Fault {
-        Fault::Tables(refusal)
-    }
-}
-
-impl fmt::Display for BadBlock {
-    fn fmt<W: fmt::Write>(&self, f: &mut fmt::Formatter<W>) -> fmt::Result {
-        let number = self.fault.number();
-        let place = self.place;
-        write!(f, "refused {number} {place} 0")
-    }
-}
-
-impl fmt::Display for Fault {
-    fn fmt<W: fmt::Write>(&self, f: &mut fmt::Formatter<W>) -> fmt::Result {
-        match self {
-            Fault::Block(bad) => write!(f, "{bad}"),
-            Fault::Io(error) => write!(
-                f,
-                "the input cannot be read, or the output not written: {error}"
-            ),
-            Fault::Memory => write!(f, "there is no memory for the tables"),
-            Fault::Tables(_) => write!(f, "the tables are too short"),
-        }
-    }
+    #[error("the tables are too short")]
+    Tables(#[from] screen::Refusal),
 }

@@ -4,10 +4,14 @@
 
 mod blocks;
 mod came;
+mod ended;
 mod fault;
 mod memory;
+mod place;
 
-pub use blocks::{run, run_blocks};
+pub use blocks::{run, run_blocks, run_each};
 pub use came::Came;
+pub use ended::failed;
 pub use fault::{BadBlock, Fault};
 pub use memory::{Lent, Memory};
+pub use place::Place;

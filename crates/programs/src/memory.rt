@@ -1,8 +1,9 @@
 //! The memory that a program lends to its sheet.
 
-use block::Record;
+ghost use Rattle.std.specs.Prelude.{◌≡◌, IfOk, vec_len};
+
 use screen::{DependencyRow, IdentifierRow, Line, PathRow, ReadRow, ShapeRow, TypeRow, ValueRow};
-use sheet::{DeclarationRow, NodeRow, ScopeRow, Sheet, Table, Work};
+use sheet::{DeclarationRow, Limited, NodeRow, ScopeRow, Sheet, Table, Work};
 use std::alloc::{AllocError, Global};
 
 /// The rows of every table.
@@ -25,7 +26,8 @@ pub struct Memory {
     scratch: Vec<DependencyRow>,
 }
 
-/// A sheet and its work tables in memory that a program lends.
+/// A sheet and its work tables in memory that a program lends. They are taken apart before they are used: of a value that is owned, the borrow
+/// checker does not cover `lent.sheet.start(&lent.work)`.
 #[derive(Drop)]
 pub struct Lent<'a> {
     pub sheet: Sheet<'a>,
@@ -35,122 +37,38 @@ pub struct Lent<'a> {
 impl Memory {
     /// Rows of zeros, as many as each table's limit.
     pub fn new(heap: Global) -> Result<Memory, AllocError> {
-        let made = Record {
-            tag: 0,
-            p: 0,
-            q: 0,
-            r: 0,
-            s: 0,
-            t: 0,
-        };
-        let node = NodeRow {
-            made,
-            parent: 0,
-            first: 0,
-            last: 0,
-            next: 0,
-        };
-        let scope = ScopeRow {
-            start: 0,
-            end: 0,
-            begin: 0,
-            first: 0,
-            merged: 0,
-            next: 0,
-            status: 0,
-            reassigns: 0,
-        };
-        let dependency = DependencyRow {
-            identifier: 0,
-            first: 0,
-            length: 0,
-        };
         Ok(Memory {
-            types: vec![in heap; TypeRow { shape: 0, kind: 0 }; 256]?,
-            identifiers: vec![in heap; IdentifierRow {
-                declaration: 0,
-                typ: 0
-            }; 1024]?,
-            paths: vec![in heap; PathRow {
-                low: 0,
-                high: 0,
-                kind: 0,
-                optional: 0
-            }; 1024]?,
-            scopes: vec![in heap; scope; 256]?,
-            dependencies: vec![in heap; dependency; 1024]?,
-            declarations: vec![in heap; DeclarationRow {
-                key: 0,
-                declared: 0,
-                next: 0
-            }; 1024]?,
-            reads: vec![in heap; ReadRow { identifier: 0 }; 1024]?,
-            values: vec![in heap; ValueRow {
-                r: 0,
-                s: 0,
-                t: 0,
-                q: 0,
-                kind: 0
-            }; 1024]?,
-            shapes: vec![in heap; ShapeRow { shape: 0 }; 16]?,
-            nodes: vec![in heap; node; 1024]?,
-            lines: vec![in heap; Line {
-                level: 0,
-                node: 0,
-                scope: 0,
-                end: 0,
-                letter: 0
-            }; 1024]?,
-            uses: vec![in heap; 0; 1024]?,
-            sources: vec![in heap; 0; 1024]?,
-            targets: vec![in heap; 0; 1024]?,
-            scratch: vec![in heap; dependency; 1024]?,
+            types: rows(heap)?,
+            identifiers: rows(heap)?,
+            paths: rows(heap)?,
+            scopes: rows(heap)?,
+            dependencies: rows(heap)?,
+            declarations: rows(heap)?,
+            reads: rows(heap)?,
+            values: rows(heap)?,
+            shapes: rows(heap)?,
+            nodes: rows(heap)?,
+            lines: zeros(heap, NodeRow::LIMIT)?,
+            uses: zeros(heap, DeclarationRow::LIMIT)?,
+            sources: zeros(heap, DeclarationRow::LIMIT)?,
+            targets: zeros(heap, DeclarationRow::LIMIT)?,
+            scratch: rows(heap)?,
         })
     }
 
     /// Lends the rows to a sheet, which is still to be started.
     pub fn lend(&mut self) -> Lent<'_> {
         let sheet = Sheet {
-            types: Table {
-                rows: self.types.as_mut_slice(),
-                count: 0,
-            },
-            identifiers: Table {
-                rows: self.identifiers.as_mut_slice(),
-                count: 0,
-            },
-            paths: Table {
-                rows: self.paths.as_mut_slice(),
-                count: 0,
-            },
-            scopes: Table {
-                rows: self.scopes.as_mut_slice(),
-                count: 0,
-            },
-            dependencies: Table {
-                rows: self.dependencies.as_mut_slice(),
-                count: 0,
-            },
-            declarations: Table {
-                rows: self.declarations.as_mut_slice(),
-                count: 0,
-            },
-            reads: Table {
-                rows: self.reads.as_mut_slice(),
-                count: 0,
-            },
-            values: Table {
-                rows: self.values.as_mut_slice(),
-                count: 0,
-            },
-            shapes: Table {
-                rows: self.shapes.as_mut_slice(),
-                count: 0,
-            },
-            nodes: Table {
-                rows: self.nodes.as_mut_slice(),
-                count: 0,
-            },
+            types: Table::over(self.types.as_mut_slice()),
+            identifiers: Table::over(self.identifiers.as_mut_slice()),
+            paths: Table::over(self.paths.as_mut_slice()),
+            scopes: Table::over(self.scopes.as_mut_slice()),
+            dependencies: Table::over(self.dependencies.as_mut_slice()),
+            declarations: Table::over(self.declarations.as_mut_slice()),
+            reads: Table::over(self.reads.as_mut_slice()),
+            values: Table::over(self.values.as_mut_slice()),
+            shapes: Table::over(self.shapes.as_mut_slice()),
+            nodes: Table::over(self.nodes.as_mut_slice()),
             innermost: 0,
         };
         let work = Work {
@@ -162,4 +80,18 @@ impl Memory {
         };
         Lent { sheet, work }
     }
+}
+
+/// So many zeros.
+fn zeros<T: Copy + Default>(heap: Global, count: u32) -> Result<Vec<T>, AllocError>
+    ensures { IfOk result (λ made. vec_len made ≡ count) }
+{
+    vec![in heap; T::default(); count as usize]
+}
+
+/// Rows of zeros, as many as their table's limit.
+fn rows<T: Limited + Default>(heap: Global) -> Result<Vec<T>, AllocError>
+    ensures { IfOk result (λ made. vec_len made ≡ T.LIMIT) }
+{
+    zeros(heap, T::LIMIT)
 }

@@ -1,9 +1,12 @@
 //! Changes of a case's blocks, byte by byte, for blocks that no encoder writes.
 
+ghost use Rattle.std.specs.Prelude.{◌≡◌, [], IsErr};
+
 use crate::failure::Failure;
+use std::str::FromStr;
 
 /// A change of the bytes.
-#[derive(Clone, Copy)]
+#[derive(Clone, Copy, Debug, PartialEq, Eq)]
 pub enum Change {
     /// So many zeros at the end.
     Zeros(u32),
@@ -13,54 +16,37 @@ pub enum Change {
     Cut(usize),
 }
 
-impl Change {
-    /// The change that a line writes: `zeros COUNT`, `set PLACE BYTE` or `cut LENGTH`.
-    pub fn of(line: &str) -> Result<Change, Failure> {
+/// The change that a line writes: `zeros COUNT`, `set PLACE BYTE` or `cut LENGTH`.
+impl FromStr for Change {
+    type Err = Failure;
+
+    // an empty line writes none
+    ghost from_str_gives = { λ text r. text ≡ [] → IsErr r };
+
+    fn from_str(line: &str) -> Result<Change, Failure> {
         let mut words = line.split_whitespace();
-        let Some(word) = words.next() else {
-            return Err(Failure::Line);
-        };
-        let Some(number) = words.next() else {
-            return Err(Failure::Line);
-        };
-        match (word, words.next()) {
-            ("zeros", None) => Ok(Change::Zeros(number.parse::<u32>()?)),
-            ("set", Some(byte)) => Ok(Change::Set {
-                at: number.parse::<usize>()?,
-                byte: byte.parse::<u8>()?,
+        match (words.next(), words.next(), words.next()) {
+            (Some("zeros"), Some(count), None) => Ok(Change::Zeros(count.parse()?)),
+            (Some("set"), Some(at), Some(byte)) => Ok(Change::Set {
+                at: at.parse()?,
+                byte: byte.parse()?,
             }),
-            ("cut", None) => Ok(Change::Cut(number.parse::<usize>()?)),
+            (Some("cut"), Some(length), None) => Ok(Change::Cut(length.parse()?)),
             _ => Err(Failure::Line),
         }
     }
+}
 
+impl Change {
     /// Makes the change.
     pub fn make(self, bytes: &mut Vec<u8>) -> Result<(), Failure> {
         match self {
-            Change::Zeros(count) => add_zeros(bytes, count),
-            Change::Set { at, byte } => set(bytes, at, byte),
-            Change::Cut(length) => {
-                bytes.truncate(length);
-                Ok(())
+            Change::Zeros(count) => {
+                bytes.resize(bytes.len().saturating_add(count as usize), 0)?;
             }
+            Change::Set { at, byte } => *bytes.get_mut(at).ok_or(Failure::Line)? = byte,
+            Change::Cut(length) => bytes.truncate(length),
         }
-    }
-}
-
-/// Adds so many zeros.
-fn add_zeros(bytes: &mut Vec<u8>, count: u32) -> Result<(), Failure> {
-    for _turn in 0..count {
-        bytes.push(0)?;
-    }
-    Ok(())
-}
-
-/// Sets a byte that is there.
-fn set(bytes: &mut Vec<u8>, at: usize, byte: u8) -> Result<(), Failure> {
-    if at < bytes.len() {
-        bytes[at] = byte;
         Ok(())
-    } else {
-        Err(Failure::Line)
     }
 }

@@ -5,8 +5,8 @@ use crate::failure::Failure;
 use std::alloc::Global;
 use text::read_line;
 
-/// Which part of a case a line belongs to.
-#[derive(Clone, Copy)]
+/// Which part of a case a line belongs to. Lines are read one at a time, so that what is wrong with one can be said with its number.
+#[derive(Clone, Copy, Debug, PartialEq, Eq)]
 enum Part {
     Outside,
     Records,
@@ -38,7 +38,7 @@ impl Case {
 
     /// Whether a line of it is read.
     pub fn is_begun(&self) -> bool {
-        !matches!(self.part, Part::Outside)
+        self.part != Part::Outside
     }
 
     /// Reads one more line. Answers whether the case is whole.
@@ -57,7 +57,7 @@ impl Case {
         match self.part {
             Part::Outside => self.begin(line),
             Part::Records => self.read_records(heap, line),
-            Part::Bytes => Ok(self.changes.push(Change::of(line)?)?),
+            Part::Bytes => Ok(self.changes.push(line.parse()?)?),
             Part::Expected => {
                 self.expected.push_str(line)?;
                 Ok(self.expected.push_str("\n")?)
@@ -70,9 +70,7 @@ impl Case {
         if line.is_empty() || line.starts_with("#") {
             return Ok(());
         }
-        let Some(name) = line.strip_prefix("case: ") else {
-            return Err(Failure::Line);
-        };
+        let name = line.strip_prefix("case: ").ok_or(Failure::Line)?;
         self.part = Part::Records;
         Ok(self.name.push_str(name)?)
     }
@@ -82,10 +80,8 @@ impl Case {
         let Some(rest) = line.strip_prefix("repeat ") else {
             return self.read_record(line);
         };
-        let Some((count, form)) = rest.split_once(": ") else {
-            return Err(Failure::Line);
-        };
-        self.read_repeated(heap, count.parse::<u32>()?, form)
+        let (count, form) = rest.split_once(": ").ok_or(Failure::Line)?;
+        self.read_repeated(heap, count.parse()?, form)
     }
 
     /// Reads a record so many times; a star in its form is the turn, from 0 on.
@@ -100,10 +96,9 @@ impl Case {
 
     /// Reads a record in the text form, or a line that has none.
     fn read_record(&mut self, line: &str) -> Result<(), Failure> {
-        match read_line(line) {
-            Ok(None) => Ok(()),
-            Ok(Some(record)) => Ok(self.records.push(record)?),
-            Err(_) => Err(Failure::Line),
+        if let Some(record) = read_line(line).map_err(|_| Failure::Line)? {
+            self.records.push(record)?;
         }
+        Ok(())
     }
 }

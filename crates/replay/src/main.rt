@@ -9,7 +9,8 @@ mod play;
 
 use case::Case;
 use failure::Failure;
-use play::Outcome;
+use play::Difference;
+use programs::failed;
 use std::fs;
 use std::process::ExitCode;
 
@@ -24,7 +25,7 @@ const FILES: [&str; 6] = [
 ];
 
 /// How many cases were replayed, and how many of them differ.
-#[derive(Clone, Copy)]
+#[derive(Clone, Copy, Debug, Default, PartialEq, Eq)]
 struct Tally {
     cases: u32,
     differing: u32,
@@ -38,18 +39,14 @@ fn shown(bytes: &[u8]) -> &str {
 /// Prints what came of a case. Answers whether it is as expected.
 fn report(rt: &HostRuntime, case: &Case) -> Result<bool, Failure> {
     let name = case.name.as_str();
-    match case.play(rt.alloc())? {
-        Outcome::Same => {
-            println!(rt; "ok {name}")?;
-            Ok(true)
-        }
-        Outcome::Differs { pass, got } => {
-            let expected = case.expected.as_str();
-            let got = shown(got.as_slice());
-            println!(rt; "DIFFERS {name} ({pass})\nexpected:\n{expected}got:\n{got}")?;
-            Ok(false)
-        }
-    }
+    let Some(Difference { pass, got }) = case.play(rt.alloc())? else {
+        println!(rt; "ok {name}")?;
+        return Ok(true);
+    };
+    let expected = case.expected.as_str();
+    let got = shown(got.as_slice());
+    println!(rt; "DIFFERS {name} ({pass})\nexpected:\n{expected}got:\n{got}")?;
+    Ok(false)
 }
 
 /// Replays the cases of a text.
@@ -81,10 +78,7 @@ fn replay_text(rt: &HostRuntime, file: &str, text: &str, tally: &mut Tally) -> R
 
 /// Replays the cases of every file.
 fn replay(rt: &HostRuntime) -> Result<Tally, Failure> {
-    let mut tally = Tally {
-        cases: 0,
-        differing: 0,
-    };
+    let mut tally = Tally::default();
     for file in FILES {
         let text = fs::read_to_string(rt, file)?;
         replay_text(rt, file, text.as_str(), &mut tally)?;
@@ -92,28 +86,19 @@ fn replay(rt: &HostRuntime) -> Result<Tally, Failure> {
     Ok(tally)
 }
 
-/// Replays the cases, prints how many there are, and says on standard error why it could not.
-fn run(rt: &HostRuntime) -> Result<(), Failure> {
-    match replay(rt) {
-        Ok(tally) => {
-            println!(rt; "{} cases, {} differ", tally.cases, tally.differing)?;
-            if tally.differing == 0 {
-                Ok(())
-            } else {
-                Err(Failure::Differing)
-            }
-        }
-        Err(failure) => {
-            eprintln!(rt; "replay: {failure}")?;
-            Err(failure)
-        }
+/// Prints how many cases there are, and how many of them differ. Where one does, the program fails.
+fn finish(rt: &HostRuntime, tally: Tally) -> ExitCode {
+    let printed = println!(rt; "{} cases, {} differ", tally.cases, tally.differing);
+    if printed.is_ok() && tally.differing == 0 {
+        ExitCode::SUCCESS
+    } else {
+        ExitCode::FAILURE
     }
 }
 
-// The runtime prints an error that main returns, and the program has said its own.
 fn main(rt: HostRuntime) -> ExitCode {
-    match run(&rt) {
-        Ok(()) => ExitCode::SUCCESS,
-        Err(_) => ExitCode::FAILURE,
+    match replay(&rt) {
+        Ok(tally) => finish(&rt, tally),
+        Err(failure) => failed(&rt, "replay", &failure),
     }
 }

@@ -2,20 +2,19 @@
 
 use crate::case::Case;
 use crate::failure::Failure;
+use block::MOST;
 use encode::fill_blocks;
-use programs::{Came, Fault, Lent, Memory, run};
+use programs::{Came, Fault, Lent, Memory, Place, run};
 use std::alloc::Global;
 use std::io::Write;
 
-/// The records of a block.
-const MOST: usize = 31;
-
-/// What a replay came to.
+/// What came of a case, where it is not as expected.
 #[derive(Drop)]
-pub enum Outcome {
-    Same,
-    /// The pass that differs, and what it wrote.
-    Differs { pass: &'static str, got: Vec<u8> },
+pub struct Difference {
+    /// The pass that differs.
+    pub pass: &'static str,
+    /// What it wrote.
+    pub got: Vec<u8>,
 }
 
 /// Runs blocks as sheetrun does.
@@ -25,7 +24,7 @@ fn play_blocks(heap: Global, blocks: &[u8]) -> Result<Vec<u8>, Failure> {
     match run(heap, &mut input, &mut out) {
         Ok(()) => {}
         Err(Fault::Block(bad)) => writeln!(out, "{bad}")?,
-        Err(fault) => return Err(Failure::Run(fault)),
+        Err(fault) => return Err(fault.into()),
     }
     Ok(out)
 }
@@ -37,19 +36,22 @@ fn play_examined(heap: Global, records: &[[u8; 16]]) -> Result<Vec<u8>, Failure>
         mut sheet,
         mut work,
     } = memory.lend();
-    sheet.start(&work)?;
+    sheet.start(&work).map_err(Fault::from)?;
     let mut out = Vec::new(heap);
     for (i, record) in records.iter().enumerate() {
         let answer = sheet.take(&mut work, *record);
         let lines = &*work.lines;
+        let place = Place {
+            block: (i / MOST) as u64,
+            record: (i % MOST) as u64,
+        };
         write!(
             out,
             "{}",
             Came {
                 answer,
                 lines,
-                block: (i / MOST) as u64,
-                at: (i % MOST) as u64
+                place
             }
         )?;
     }
@@ -66,26 +68,24 @@ impl Case {
         Ok(bytes)
     }
 
-    /// Replays it, on a sheet known to be sound, and where its blocks are as written also with each record's tables examined.
-    pub fn play(&self, heap: Global) -> Result<Outcome, Failure> {
+    /// What a pass wrote, where that is not as expected.
+    fn difference(&self, pass: &'static str, got: Vec<u8>) -> Option<Difference> {
+        if got.as_slice() == self.expected.as_bytes() {
+            None
+        } else {
+            Some(Difference { pass, got })
+        }
+    }
+
+    /// Replays it, on a sheet known to be sound, and where its blocks are as written also with each record's tables examined. Answers the first
+    /// pass that differs.
+    pub fn play(&self, heap: Global) -> Result<Option<Difference>, Failure> {
         let blocks = self.blocks(heap)?;
-        let got = play_blocks(heap, blocks.as_slice())?;
-        if got.as_slice() != self.expected.as_bytes() {
-            return Ok(Outcome::Differs {
-                pass: "as sheetrun",
-                got,
-            });
+        let differs = self.difference("as sheetrun", play_blocks(heap, blocks.as_slice())?);
+        if differs.is_some() || !self.changes.is_empty() {
+            return Ok(differs);
         }
-        if !self.changes.is_empty() {
-            return Ok(Outcome::Same);
-        }
-        let got = play_examined(heap, self.records.as_slice())?;
-        if got.as_slice() != self.expected.as_bytes() {
-            return Ok(Outcome::Differs {
-                pass: "examined",
-                got,
-            });
-        }
-        Ok(Outcome::Same)
+        let examined = play_examined(heap, self.records.as_slice())?;
+        Ok(self.difference("examined", examined))
     }
 }

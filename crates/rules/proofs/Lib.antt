@@ -1,3 +1,4 @@
+pub mod Kept
 pub mod Likes
 pub mod Parts
 pub mod Repeats

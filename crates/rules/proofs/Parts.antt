@@ -1,30 +1,17 @@
--- A part of a table that may end before the part does.
-use Rattle.std.proofs.Common.{◌≡◌, ℕ, ◌+◌, ◌-◌, min, List, [], length, take, drop, sym, ap, ◌∙◌, ⊎_elim, arith, length-drop}
-use Rattle.std.proofs.lemmas.List.{take_all, drop_all}
-use Rattle.std.proofs.lemmas.Bool.{cases_lt}
+-- What `get` makes of a range that may end past the end of the table.
+use Rattle.std.proofs.Common.{◌≡◌, ℕ, ◌-◌, List, [], length, take, drop, Option, Some, None, Bor, sym, ap, ◌∙◌, arith}
+use Rattle.std.proofs.lemmas.List.{take_all, drop_all, take_rest}
+use Rattle.std.specs.Option.{unwrap_or}
+use Rattle.std.specs.Slice.{IsGetRangeResult}
 
--- what is cut at the end of the table is what is there
-pub take_min : {A : Type 0} (n : ℕ) (xs : List A) → take (min n (length xs)) xs ≡ take n xs
-take_min n xs =
-    ⊎_elim
-    (λ h. ap (λ k. take k xs) (let e : min n (length xs) ≡ n = omega arith in e))
-    (λ h. ap (λ k. take k xs) (let e : min n (length xs) ≡ length xs = omega arith in e) ∙ take_all (length xs) xs (omega arith) ∙ sym (take_all n xs h))
-    (cases_lt n (length xs))
+-- from `first` on, and nothing where `first` is past the end
+pub rest_read : {A : Type 0} (xs : List A) (first : ℕ) (o : Option (Bor (List A))) (none : Bor (List A)) →
+    IsGetRangeResult xs first (length xs) o → none.now ≡ [] → (unwrap_or o none).now ≡ drop first xs
+rest_read xs first None none h e = e ∙ sym (drop_all first xs (omega (arith, h.0)))
+rest_read xs first (Some r) none h e = h.0.2 ∙ take_rest xs first
 
-take_none : {A : Type 0} (n : ℕ) → take {A = A} n [] ≡ []
-take_none {A} n = take_all {A = A} n [] (omega arith)
-
--- `count` rows from `first` on, both cut at the end
-pub part_min : {A : Type 0} (xs : List A) (first count : ℕ) →
-    take (min (min first (length xs) + count) (length xs) - min first (length xs)) (drop (min first (length xs)) xs) ≡ take count (drop first xs)
-part_min xs first count =
-    ⊎_elim
-    (λ h.
-    let e : min first (length xs) ≡ first = omega arith in
-    let r : min (min first (length xs) + count) (length xs) - min first (length xs) ≡ min count (length (drop first xs)) = omega (arith, length-drop first xs) in
-    ap (λ k. take k (drop (min first (length xs)) xs)) r ∙ ap (λ k. take (min count (length (drop first xs))) (drop k xs)) e ∙ take_min count (drop first xs))
-    (λ h.
-    let e : min first (length xs) ≡ length xs = omega arith in
-    let r : min (min first (length xs) + count) (length xs) - min first (length xs) ≡ 0 = omega arith in
-    ap (λ k. take k (drop (min first (length xs)) xs)) r ∙ sym (ap (take count) (drop_all first xs h) ∙ take_none count))
-    (cases_lt first (length xs))
+-- the first `count`, and all where there are fewer
+pub first_read : {A : Type 0} (count : ℕ) (o : Option (Bor (List A))) (whole : Bor (List A)) →
+    IsGetRangeResult whole.now 0 count o → (unwrap_or o whole).now ≡ take count whole.now
+first_read count None whole h = sym (take_all count whole.now (omega (arith, h.0)))
+first_read count (Some r) whole h = let e : count - 0 ≡ count = omega arith in h.0.2 ∙ ap (λ n. take n whole.now) e

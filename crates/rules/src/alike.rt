@@ -1,82 +1,74 @@
 //! Which entries are alike. A rule says it of two path entries; the scans over paths and lists are written once, for every rule.
+//! The rule and the entries are two parameters: a struct of them would have the rule's type as its parameter, and save no word.
 
-ghost use Rattle.std.specs.Prelude.{◌≡◌, Bool};
+ghost use Rattle.std.specs.Prelude.{◌≡◌, Bool, zip};
+ghost use Rattle.std.specs.List.{list_all};
 ghost use Rattle.screen.specs.declared.rows.PathRow.{PathRow};
-ghost use Rattle.screen.specs.Rules.{dep_of, deps_of};
-ghost use Rattle.screen.specs.Alike.{paths_alike, alike, found, covered};
+ghost use Rattle.screen.specs.Alike.{bits_alike, paths_alike, alike, found, covered};
+ghost use Rattle.rules.specs.Named.{dep_in, deps_in};
 
-use crate::read::{declaration_of, path_of};
-use screen::{DependencyRow, IdentifierRow, PathRow};
+use crate::read::Entries;
+use screen::{DependencyRow, PathRow};
 
 /// What a rule says of two path entries.
 pub trait Alike {
     ghost like: { Self → PathRow → PathRow → Bool };
 
+    /// Whether two path entries are alike under this rule.
     fn is_like(&self, p: PathRow, q: PathRow) -> bool
         ensures { result ≡ like self.now p q };
 }
 
+/// Whether two path entries agree in kind, 64 bits and optional mark. Each rule here says so of them; another may say something else, so it is no part of the trait.
+pub fn has_same_bits(p: PathRow, q: PathRow) -> bool
+    ensures { result ≡ bits_alike p q }
+{
+    p == q
+}
+
+/// Whether each two entries that stand at one place of the two paths are alike.
+fn are_alike_entries<R: Alike>(rule: &R, a: &[PathRow], b: &[PathRow]) -> bool
+    ensures { result ≡ list_all (λ t. R.like rule.now t.0 t.1) (zip a.now b.now) }
+{
+    a.iter().zip(b).all(|(p, q)| rule.is_like(*p, *q))
+}
+
 /// Whether two paths are alike, entry for entry.
+#[tactic(auto, using(crate::proofs::Likes::paths_zip))]
 fn are_alike_paths<R: Alike>(rule: &R, a: &[PathRow], b: &[PathRow]) -> bool
     ensures { result ≡ paths_alike (R.like rule.now) a.now b.now }
 {
-    if a.len() != b.len() {
-        return false;
-    }
-    for i in 0..a.len() {
-        if !rule.is_like(a[i], b[i]) {
-            return false;
-        }
-    }
-    true
+    a.len() == b.len() && are_alike_entries(rule, a, b)
 }
 
 /// Whether two rows stand for alike entries: one declaration, and alike paths.
-fn are_alike<R: Alike>(
-    rule: &R,
-    identifiers: &[IdentifierRow],
-    paths: &[PathRow],
-    x: DependencyRow,
-    y: DependencyRow,
-) -> bool
-    ensures { result ≡ alike (R.like rule.now) (dep_of identifiers.now paths.now x) (dep_of identifiers.now paths.now y) }
+fn are_alike<R: Alike>(rule: &R, entries: Entries<'_>, x: &DependencyRow, y: &DependencyRow) -> bool
+    ensures { result ≡ alike (R.like rule.now) (dep_in entries.entry x.now) (dep_in entries.entry y.now) }
 {
-    declaration_of(identifiers, x.identifier) == declaration_of(identifiers, y.identifier)
-        && are_alike_paths(rule, path_of(paths, x), path_of(paths, y))
+    entries.declaration_of(x.identifier.into()) == entries.declaration_of(y.identifier.into())
+        && are_alike_paths(rule, entries.path_of(x), entries.path_of(y))
 }
 
 /// Whether x is alike to one of the list.
 fn is_found<R: Alike>(
     rule: &R,
-    identifiers: &[IdentifierRow],
-    paths: &[PathRow],
-    x: DependencyRow,
+    entries: Entries<'_>,
+    x: &DependencyRow,
     list: &[DependencyRow],
 ) -> bool
-    ensures { result ≡ found (R.like rule.now) (dep_of identifiers.now paths.now x) (deps_of identifiers.now paths.now list.now) }
+    ensures { result ≡ found (R.like rule.now) (dep_in entries.entry x.now) (deps_in entries.entry list.now) }
 {
-    for y in list {
-        if are_alike(rule, identifiers, paths, x, *y) {
-            return true;
-        }
-    }
-    false
+    list.iter().any(|y| are_alike(rule, entries, x, y))
 }
 
 /// Whether each entry of the first list is alike to one of the second.
 pub fn is_covered<R: Alike>(
     rule: &R,
-    identifiers: &[IdentifierRow],
-    paths: &[PathRow],
+    entries: Entries<'_>,
     a: &[DependencyRow],
     b: &[DependencyRow],
 ) -> bool
-    ensures { result ≡ covered (R.like rule.now) (deps_of identifiers.now paths.now a.now) (deps_of identifiers.now paths.now b.now) }
+    ensures { result ≡ covered (R.like rule.now) (deps_in entries.entry a.now) (deps_in entries.entry b.now) }
 {
-    for x in a {
-        if !is_found(rule, identifiers, paths, *x, b) {
-            return false;
-        }
-    }
-    true
+    a.iter().all(|x| is_found(rule, entries, x, b))
 }

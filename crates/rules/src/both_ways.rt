@@ -4,13 +4,14 @@ ghost use Rattle.screen.specs.Alike.{bits_alike};
 ghost use Rattle.screen.specs.Meanings.{both_ways_meaning};
 ghost use Rattle.screen.specs.Reflexive.{both_ways_reflexive};
 
-use crate::alike::{Alike, is_covered};
+use crate::alike::{Alike, has_same_bits, is_covered};
 use crate::lasting::is_always_invalidating_type;
+use crate::read::Entries;
 use crate::rule::Rule;
-use screen::{DependencyRow, IdentifierRow, PathRow};
+use screen::{DependencyRow, PathRow};
 
 /// The both-ways rule.
-#[derive(Clone, Copy)]
+#[derive(Clone, Copy, Debug, PartialEq, Eq)]
 pub struct BothWaysRule;
 
 impl Alike for BothWaysRule {
@@ -18,7 +19,7 @@ impl Alike for BothWaysRule {
 
     /// Kind, 64 bits and optional mark.
     fn is_like(&self, p: PathRow, q: PathRow) -> bool {
-        p.kind == q.kind && p.low == q.low && p.high == q.high && p.optional == q.optional
+        has_same_bits(p, q)
     }
 }
 
@@ -27,14 +28,8 @@ impl Rule for BothWaysRule {
 
     ghost reflexive = { λ s l. both_ways_reflexive l };
 
-    fn same(
-        &self,
-        identifiers: &[IdentifierRow],
-        paths: &[PathRow],
-        a: &[DependencyRow],
-        b: &[DependencyRow],
-    ) -> bool {
-        is_covered(self, identifiers, paths, a, b) && is_covered(self, identifiers, paths, b, a)
+    fn same(&self, entries: Entries<'_>, a: &[DependencyRow], b: &[DependencyRow]) -> bool {
+        is_covered(self, entries, a, b) && is_covered(self, entries, b, a)
     }
 
     fn lasting(&self, kind: u8, shape: u32) -> bool {

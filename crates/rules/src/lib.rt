@@ -19,6 +19,7 @@ pub use both_ways::BothWaysRule;
 pub use list::ListRule;
 pub use own_shapes::OwnShapes;
 pub use piles::{layer_keeps_the_law, pile_keeps_the_law, pile_lasting};
+pub use read::Entries;
 pub use rule::{Rule, same_as_itself};
 pub use shapes::Shapes;
 pub use shown::{

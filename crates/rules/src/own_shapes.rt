@@ -5,13 +5,14 @@ ghost use Rattle.rules.specs.Kept.{kept_in, shapes_of};
 ghost use Rattle.screen.specs.Meanings.{own_meaning};
 ghost use Rattle.std.proofs.Common.{rules};
 
-use crate::lasting::OBJECT;
+use crate::lasting::is_object;
+use crate::read::Entries;
 use crate::rule::Rule;
 use crate::shapes::Shapes;
-use screen::{DependencyRow, IdentifierRow, PathRow, ShapeRow};
+use screen::{DependencyRow, ShapeRow};
 
 /// A rule, and the host's own shapes over it.
-#[derive(Clone, Copy)]
+#[derive(Clone, Copy, Debug, PartialEq, Eq)]
 pub struct OwnShapes<R> {
     pub below: R,
     pub shapes: Shapes,
@@ -25,7 +26,7 @@ impl<R> OwnShapes<R> {
     {
         OwnShapes {
             below,
-            shapes: Shapes::of(rows),
+            shapes: Shapes::from(rows),
         }
     }
 }
@@ -35,17 +36,11 @@ impl<R: Rule> Rule for OwnShapes<R> {
 
     ghost reflexive = { Prim.search rules };
 
-    fn same(
-        &self,
-        identifiers: &[IdentifierRow],
-        paths: &[PathRow],
-        a: &[DependencyRow],
-        b: &[DependencyRow],
-    ) -> bool {
-        self.below.same(identifiers, paths, a, b)
+    fn same(&self, entries: Entries<'_>, a: &[DependencyRow], b: &[DependencyRow]) -> bool {
+        self.below.same(entries, a, b)
     }
 
     fn lasting(&self, kind: u8, shape: u32) -> bool {
-        kind == OBJECT && self.shapes.has(shape) || self.below.lasting(kind, shape)
+        is_object(kind) && self.shapes.has(shape) || self.below.lasting(kind, shape)
     }
 }

@@ -1,68 +1,45 @@
 //! The host's own shapes, at most sixteen.
 
-ghost use Rattle.std.specs.Prelude.{◌≡◌, min, length, take};
+ghost use Rattle.std.specs.Prelude.{◌≡◌, slice_get};
+ghost use Rattle.std.specs.Option.{option_map};
 ghost use Rattle.screen.specs.Lists.{member};
 ghost use Rattle.rules.specs.Kept.{kept_in, shapes_of};
 
 use screen::ShapeRow;
+use std::array;
 
-/// How many shapes are kept at most.
+/// How many shapes are kept at most: as many as a sheet may have. Crate `sheet` has the same limit, and the rules stand on `screen` alone.
 pub const MOST: usize = 16;
 
-/// Up to sixteen shapes; the first `count` are kept.
-#[derive(Clone, Copy)]
+/// Up to sixteen shapes: an array of places, since a rule is held and copied by value, and a vector of fixed room is not `Copy`.
+#[derive(Clone, Copy, Debug, PartialEq, Eq)]
 pub struct Shapes {
-    pub kept: [u32; MOST],
-    pub count: u8,
+    pub kept: [Option<u32>; MOST],
 }
 
-/// The first `count` of these, or as many as there are.
-fn first_of(shapes: &[u32], count: u8) -> &[u32]
-    ensures { result.now ≡ take count shapes.now }
+/// The shape of a row; none where no row is put.
+fn shape_at(rows: &[ShapeRow], place: usize) -> Option<u32>
+    ensures { result ≡ option_map (λ r. r.shape) (slice_get rows.now place) }
 {
-    let end = (count as usize).min(shapes.len());
-    &shapes[0..end]
+    rows.get(place).map(|row| row.shape)
 }
 
-/// Whether a shape is among these.
-fn has_shape(shapes: &[u32], shape: u32) -> bool
-    ensures { result ≡ member shape shapes.now }
-{
-    for own in shapes {
-        if *own == shape {
-            return true;
+impl From<&[ShapeRow]> for Shapes {
+    ghost from_gives = { λ rows shapes. kept_in shapes ≡ shapes_of rows.now };
+
+    /// The shapes of a sheet's rows, of which sixteen are kept.
+    fn from(rows: &[ShapeRow]) -> Shapes {
+        Shapes {
+            kept: array::from_fn(|place| shape_at(rows, place)),
         }
     }
-    false
-}
-
-/// The shapes of the first sixteen rows, and zeros where there are fewer.
-fn copied(rows: &[ShapeRow]) -> [u32; MOST]
-    ensures { take (min (length rows.now) 16) result ≡ shapes_of rows.now }
-{
-    let count = rows.len().min(MOST);
-    let mut all = [0; MOST];
-    for i in 0..count {
-        all[i] = rows[i].shape;
-    }
-    all
 }
 
 impl Shapes {
-    /// The shapes of a sheet's rows, of which sixteen are kept.
-    pub fn of(rows: &[ShapeRow]) -> Shapes
-        ensures { kept_in result ≡ shapes_of rows.now }
-    {
-        Shapes {
-            kept: copied(rows),
-            count: rows.len().min(MOST) as u8,
-        }
-    }
-
     /// Whether a shape is kept.
     pub fn has(&self, shape: u32) -> bool
         ensures { result ≡ member shape (kept_in self.now) }
     {
-        has_shape(first_of(&self.kept, self.count), shape)
+        self.kept.contains(&Some(shape))
     }
 }

@@ -1,12 +1,18 @@
 //! The edges of each rule, asked of the code.
 
 use crate::both_ways::BothWaysRule;
-use crate::lasting::{FUNCTION, OBJECT};
 use crate::list::ListRule;
 use crate::own_shapes::OwnShapes;
+use crate::read::Entries;
 use crate::rule::Rule;
-use screen::{DependencyRow, IdentifierRow, PathRow, ShapeRow};
+use screen::{DependencyRow, IdentifierRow, PathRow, ShapeRow, TypeKind};
 use std::test::Fail;
+
+/// The kind of a Function's type.
+const FUNCTION: u8 = TypeKind::Function as u8;
+
+/// The kind of an Object's type.
+const OBJECT: u8 = TypeKind::Object as u8;
 
 const IDENTIFIERS: [IdentifierRow; 2] = [
     IdentifierRow {
@@ -53,6 +59,11 @@ const PATHS: [PathRow; 5] = [
     },
 ];
 
+const ENTRIES: Entries<'static> = Entries {
+    identifiers: &IDENTIFIERS,
+    paths: &PATHS,
+};
+
 /// One shape more than is kept.
 const SHAPES: [ShapeRow; 17] = [
     ShapeRow { shape: 100 },
@@ -84,10 +95,10 @@ fn entry(identifier: u32, first: u32, length: u16) -> DependencyRow {
 
 /// Whether two lists of one entry are the same under both rules, or under neither.
 fn agree(x: DependencyRow, y: DependencyRow, answer: bool, what: &str) -> Result<(), Fail> {
-    if ListRule.same(&IDENTIFIERS, &PATHS, &[x], &[y]) != answer {
+    if ListRule.same(ENTRIES, &[x], &[y]) != answer {
         return Err(Fail::new(what));
     }
-    if BothWaysRule.same(&IDENTIFIERS, &PATHS, &[x], &[y]) != answer {
+    if BothWaysRule.same(ENTRIES, &[x], &[y]) != answer {
         return Err(Fail::new(what));
     }
     Ok(())
@@ -131,20 +142,17 @@ fn rows_not_put() -> Result<(), Fail> {
 fn empty_and_longer(rt: HostRuntime) {
     let x = entry(0, 0, 0);
     let y = entry(1, 0, 0);
-    assert!(rt; ListRule.same(&IDENTIFIERS, &PATHS, &[], &[]));
-    assert!(rt; BothWaysRule.same(&IDENTIFIERS, &PATHS, &[], &[]));
-    assert!(rt; !ListRule.same(&IDENTIFIERS, &PATHS, &[], &[x]));
-    assert!(rt; !BothWaysRule.same(&IDENTIFIERS, &PATHS, &[], &[x]));
+    assert!(rt; ListRule.same(ENTRIES, &[], &[]));
+    assert!(rt; BothWaysRule.same(ENTRIES, &[], &[]));
+    assert!(rt; !ListRule.same(ENTRIES, &[], &[x]));
+    assert!(rt; !BothWaysRule.same(ENTRIES, &[], &[x]));
+    assert!(rt; !ListRule.same(ENTRIES, &[x], &[x, x]), "lengths count");
     assert!(rt;
-        !ListRule.same(&IDENTIFIERS, &PATHS, &[x], &[x, x]),
-        "lengths count"
-    );
-    assert!(rt;
-        BothWaysRule.same(&IDENTIFIERS, &PATHS, &[x], &[x, x]),
+        BothWaysRule.same(ENTRIES, &[x], &[x, x]),
         "lengths do not count"
     );
-    assert!(rt; ListRule.same(&IDENTIFIERS, &PATHS, &[x, y], &[y, x]));
-    assert!(rt; BothWaysRule.same(&IDENTIFIERS, &PATHS, &[x, y], &[y, x]));
+    assert!(rt; ListRule.same(ENTRIES, &[x, y], &[y, x]));
+    assert!(rt; BothWaysRule.same(ENTRIES, &[x, y], &[y, x]));
 }
 
 #[test]

@@ -1,6 +1,7 @@
 -- Lists in which no number stands twice, with more numbers in them.
 use Rattle.std.proofs.Common.{◌≡◌, ℕ, true, false, not, ◌||◌, eqb, ltb, List, [], ◌∷◌, ◌++◌, sym, refl, ap, ◌∙◌, subst, arith}
 use Rattle.std.proofs.lemmas.List.{append_assoc, append-nil}
+use Rattle.std.proofs.lemmas.Grind.{flat_map-append}
 use Rattle.std.proofs.lemmas.Bool.{and_parts, and_from, or_parts, or_from, not-true, ltb-true, ne_eqb, eqb-false}
 use Rattle.screen.specs.Lists.{every, member, distinct, gathered}
 use Rattle.screen.specs.Users.{names_of, names_in, namings, taken}
@@ -9,8 +10,7 @@ use Rattle.screen.specs.declared.rows.ValueRow.{ValueRow}
 use Rattle.screen.proofs.Members.{member_append}
 
 pub gathered_more : {A : Type 0} (f : A → List ℕ) (xs : List A) (x : A) → gathered f (xs ++ x ∷ []) ≡ gathered f xs ++ f x
-gathered_more f [] x = append-nil (f x)
-gathered_more f (y ∷ xs) x = ap (λ t. f y ++ t) (gathered_more f xs x) ∙ sym (append_assoc (f y) (gathered f xs) (f x))
+gathered_more f xs x = flat_map-append f xs (x ∷ []) ∙ ap (λ t. gathered f xs ++ t) (append-nil (f x))
 
 -- no number of zs is x, or among us
 taken_first : (x : ℕ) (us zs : List ℕ) → taken (x ∷ us) zs ≡ false → (member x zs ≡ false) × (taken us zs ≡ false)

@@ -2,13 +2,17 @@
 use Rattle.std.proofs.Common.{◌≡◌, ℕ, Bool, true, false, cond, ◌&&◌, ◌||◌, eqb, ltb, leb, Some, None, Option, refl, ap, subst}
 use Rattle.std.proofs.lemmas.Bool.{and_parts}
 use Rattle.block.specs.declared.record.Record.{Record}
-use Rattle.screen.specs.Entries.{listed, order, blank, value_listed, type_entry, identifier_entry, path_entry, scope_entry, dependency_entry, declaration_entry, reassignment_entry, read_entry, value_entry, add_entry, terminal_entry, arm_entry, opened_entry, open_entry, plain_entry, shape_entry, entry_by, entry_of}
-use Rattle.screen.specs.Records.{type_record, identifier_record, path_record, dependency_record, declaration_record, read_record, value_record, shape_record}
+use Rattle.screen.specs.Entries.{listed, order, blank, value_listed, type_by, path_by, terminal_by, type_entry, identifier_entry, path_entry, scope_entry, dependency_entry, declaration_entry, reassignment_entry, read_entry, value_entry, add_entry, terminal_entry, arm_entry, opened_entry, open_entry, plain_entry, shape_entry, entry_by, entry_of}
+use Rattle.screen.specs.Kinds.{type_kind_of, path_kind_of, terminal_kind_of}
+use Rattle.screen.specs.declared.kinds.TypeKind.{TypeKind}
+use Rattle.screen.specs.declared.kinds.TypeKind.TheVariants as type
+use Rattle.screen.specs.declared.kinds.PathKind.{PathKind}
+use Rattle.screen.specs.declared.kinds.PathKind.TheVariants as path
+use Rattle.screen.specs.declared.kinds.TerminalKind.{TerminalKind}
+use Rattle.screen.specs.Records.{type_row, path_row, type_record, identifier_record, path_record, dependency_record, declaration_record, read_record, value_record, shape_record}
 use Rattle.screen.specs.WellFormed.{node_listed}
 use Rattle.screen.specs.declared.node.Node.TheVariants as node
-use Rattle.screen.specs.declared.rows.TypeRow.{TypeRow}
 use Rattle.screen.specs.declared.rows.IdentifierRow.{IdentifierRow}
-use Rattle.screen.specs.declared.rows.PathRow.{PathRow}
 use Rattle.screen.specs.declared.rows.DependencyRow.{DependencyRow}
 use Rattle.screen.specs.declared.rows.ReadRow.{ReadRow}
 use Rattle.screen.specs.declared.rows.ValueRow.{ValueRow}
@@ -21,9 +25,9 @@ use Rattle.screen.specs.declared.entry.Part.{Part}
 use Rattle.screen.specs.declared.entry.Part.TheVariants as part
 
 abbrev put_keeps : Put → Bool
-put_keeps (put.Type t) = leb t.kind 7
+put_keeps (put.Type k s) = true
 put_keeps (put.Identifier i) = leb i.declaration 1023
-put_keeps (put.Path p) = leb p.optional 1 && leb p.kind 1
+put_keeps (put.Path l h k o) = true
 put_keeps (put.Scope a z) = order a && order z
 put_keeps (put.Read r) = true
 put_keeps (put.Shape s) = ltb 0 s.shape
@@ -72,10 +76,22 @@ opened_keeps false k = refl
 plain_keeps : (x : Record) (e : Entry) → keeps e ≡ true → Keeps (plain_entry x e)
 plain_keeps x e h = by_list (blank x.p && blank x.q && blank x.r && blank x.s && blank x.t) e (λ _. h)
 
+type_keeps : (x : Record) (k : Option TypeKind) → Keeps (type_by x k)
+type_keeps x None = tt
+type_keeps x (Some k) = by_list (blank x.q && blank x.s && blank x.t) _ (λ _. refl)
+
+path_keeps : (x : Record) (k : Option PathKind) → Keeps (path_by x k)
+path_keeps x None = tt
+path_keeps x (Some k) = by_list (leb x.p 1 && blank x.t) _ (λ _. refl)
+
+terminal_keeps : (x : Record) (k : Option TerminalKind) → Keeps (terminal_by x k)
+terminal_keeps x None = tt
+terminal_keeps x (Some k) = by_list (order x.r && blank x.t) _ (λ h. (and_parts (order x.r) (blank x.t) h).0)
+
 open_keeps : (x : Record) → Keeps (open_entry x)
 open_keeps x =
     by_test (eqb x.p 0) (terminal_entry x) (cond (eqb x.p 1) (arm_entry x) (opened_entry x))
-    (by_list (leb x.q 12 && order x.r && blank x.t) _ (λ h. (and_parts (leb x.q 12 && order x.r) (blank x.t) h).0))
+    (terminal_keeps x (terminal_kind_of x.q))
     (by_test (eqb x.p 1) (arm_entry x) (opened_entry x)
     (by_list (blank x.q && blank x.r && blank x.s && blank x.t) _ (λ _. refl))
     (by_list (leb x.p 3 && blank x.q && blank x.s && blank x.t) _ (λ _. opened_keeps (eqb x.p 2) x.r)))
@@ -83,11 +99,11 @@ open_keeps x =
 by_keeps : (x : Record) → Keeps (entry_by x)
 by_keeps x =
     by_test (eqb x.tag 1) (type_entry x) _
-    (by_list _ _ (first_of_4 (leb x.p 7) (blank x.q) (blank x.s) (blank x.t)))
+    (type_keeps x (type_kind_of x.p))
     (by_test (eqb x.tag 2) (identifier_entry x) _
     (by_list _ _ (first_of_4 (leb x.r 1023) (blank x.p) (blank x.q) (blank x.t)))
     (by_test (eqb x.tag 3) (path_entry x) _
-    (by_list _ _ (λ h. (and_parts (leb x.p 1 && leb x.q 1) (blank x.t) h).0))
+    (path_keeps x (path_kind_of x.q))
     (by_test (eqb x.tag 4) (scope_entry x) _
     (by_list _ _ (first_of_4 (order x.r && order x.s) (blank x.p) (blank x.q) (blank x.t)))
     (by_test (eqb x.tag 5) (dependency_entry x) _
@@ -110,17 +126,27 @@ unfolding entry_of
 entered x e h = subst Keeps h (by_keeps x)
 
 -- a row that keeps its list is what its record asks for
-pub type_entered : (t : TypeRow) → leb t.kind 7 ≡ true → entry_of (type_record t) ≡ Some (entry.Put (put.Type t))
+pub type_entered : (k : TypeKind) (s : ℕ) → entry_of (type_record (type_row k s)) ≡ Some (entry.Put (put.Type k s))
 unfolding entry_of
-type_entered t h = ap (λ b. listed (b && true && true && true) (entry.Put (put.Type t))) h
+type_entered type.Primitive s = refl
+type_entered type.Function s = refl
+type_entered type.Object s = refl
+type_entered type.Var s = refl
+type_entered type.Poly s = refl
+type_entered type.Phi s = refl
+type_entered type.Property s = refl
+type_entered type.ObjectMethod s = refl
 
 pub identifier_entered : (i : IdentifierRow) → leb i.declaration 1023 ≡ true → entry_of (identifier_record i) ≡ Some (entry.Put (put.Identifier i))
 unfolding entry_of
 identifier_entered i h = ap (λ b. listed (b && true && true && true) (entry.Put (put.Identifier i))) h
 
-pub path_entered : (p : PathRow) → (leb p.optional 1 && leb p.kind 1) ≡ true → entry_of (path_record p) ≡ Some (entry.Put (put.Path p))
+pub path_entered : (l h : ℕ) (k : PathKind) (o : Bool) → entry_of (path_record (path_row l h k o)) ≡ Some (entry.Put (put.Path l h k o))
 unfolding entry_of
-path_entered p h = ap (λ b. listed (b && true) (entry.Put (put.Path p))) h
+path_entered l h path.Name false = refl
+path_entered l h path.Name true = refl
+path_entered l h path.Number false = refl
+path_entered l h path.Number true = refl
 
 pub dependency_entered : (d : DependencyRow) → (ltb 0 d.length || blank d.first) ≡ true → entry_of (dependency_record d) ≡ Some (entry.Part (part.Dependency d))
 unfolding entry_of

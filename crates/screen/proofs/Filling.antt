@@ -1,10 +1,12 @@
 -- The rows stay kept with one row more.
-use Rattle.std.proofs.Common.{◌≡◌, ℕ, true, false, ◌&&◌, ◌||◌, ltb, leb, List, [], ◌∷◌, ◌++◌, length, sym, refl, ap, ◌∙◌, arith}
+use Rattle.std.proofs.Common.{◌≡◌, ℕ, Bool, true, false, ◌||◌, ltb, leb, List, [], ◌∷◌, ◌++◌, length, sym, refl, ap, ◌∙◌, arith}
 use Rattle.std.proofs.lemmas.List.{append-nil, length_push}
 use Rattle.std.proofs.lemmas.Bool.{and_from, leb-false, le-leb}
 use Rattle.screen.specs.Values.{value_of}
 use Rattle.screen.specs.Entries.{entry_of, blank, value_listed}
-use Rattle.screen.specs.Records.{type_record, identifier_record, path_record, dependency_record, declaration_record, read_record, value_record, shape_record}
+use Rattle.screen.specs.declared.kinds.TypeKind.{TypeKind}
+use Rattle.screen.specs.declared.kinds.PathKind.{PathKind}
+use Rattle.screen.specs.Records.{type_row, path_row, type_record, identifier_record, path_record, dependency_record, declaration_record, read_record, value_record, shape_record}
 use Rattle.screen.specs.Lists.{is_put}
 use Rattle.screen.specs.State.{Rows, Declaration}
 use Rattle.screen.specs.Named.{value_named, node_named, named}
@@ -38,14 +40,15 @@ room limit xs x h =
     le-leb (length (xs ++ x ∷ [])) limit (omega (arith, length_push xs x)) ∙ sym (le-leb (length xs) limit (omega arith))
 
 module _ (w : Rows) (ss : List Status) (h : RowsKept w ss) where
-  pub type_put : (t : TypeRow) → full 256 w.types ≡ false → leb t.kind 7 ≡ true → RowsKept (with_types w (also w.types t)) ss
-  type_put t space ok =
+  pub type_put : (k : TypeKind) (s : ℕ) → full 256 w.types ≡ false → RowsKept (with_types w (also w.types (type_row k s))) ss
+  type_put k n space =
+      let t : TypeRow = type_row k n in
       let w' : Rows = with_types w (also w.types t) in
       let l : Longer w ss w' ss = record { types = omega (arith, length_push w.types t); identifiers = omega arith; paths = omega arith; reads = omega arith; statuses = omega arith; more = []; values = append-nil w.values } in
       let s : Stay w w' ss = rows_stay w ss w' ss l h in
       record {
         fitting = rw (room 256 w.types t space) h.fitting;
-        types = every_more w ss w' ss l type_record w.types t (entry.Put (put.Type t)) h.types (type_entered t ok) refl;
+        types = every_more w ss w' ss l type_record w.types t (entry.Put (put.Type k n)) h.types (type_entered k n) refl;
         identifiers = s.identifiers;
         paths = s.paths;
         dependencies = s.dependencies;
@@ -78,8 +81,9 @@ module _ (w : Rows) (ss : List Status) (h : RowsKept w ss) where
         users = h.users;
       }
 
-  pub path_put : (p : PathRow) → full 1024 w.paths ≡ false → (leb p.optional 1 && leb p.kind 1) ≡ true → RowsKept (with_paths w (also w.paths p)) ss
-  path_put p space ok =
+  pub path_put : (low high : ℕ) (k : PathKind) (o : Bool) → full 1024 w.paths ≡ false → RowsKept (with_paths w (also w.paths (path_row low high k o))) ss
+  path_put low high k o space =
+      let p : PathRow = path_row low high k o in
       let w' : Rows = with_paths w (also w.paths p) in
       let l : Longer w ss w' ss = record { types = omega arith; identifiers = omega arith; paths = omega (arith, length_push w.paths p); reads = omega arith; statuses = omega arith; more = []; values = append-nil w.values } in
       let s : Stay w w' ss = rows_stay w ss w' ss l h in
@@ -87,7 +91,7 @@ module _ (w : Rows) (ss : List Status) (h : RowsKept w ss) where
         fitting = rw (room 1024 w.paths p space) h.fitting;
         types = s.types;
         identifiers = s.identifiers;
-        paths = every_more w ss w' ss l path_record w.paths p (entry.Put (put.Path p)) h.paths (path_entered p ok) refl;
+        paths = every_more w ss w' ss l path_record w.paths p (entry.Put (put.Path low high k o)) h.paths (path_entered low high k o) refl;
         dependencies = s.dependencies;
         declarations = s.declarations;
         reads = s.reads;

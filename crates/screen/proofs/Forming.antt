@@ -72,7 +72,8 @@ module _ (is : List IdentifierRow) (vs : List ValueRow) (ss : List Status) (k : 
   kept_openings xs h (tree n x cs us) t =
       omega (arith, sym (ap (opening k) t.1) ∙ kept_opening xs n t.0 h, kept_openings xs h cs t.2, kept_openings xs h us t.3)
 
-is_unused_lem : (s : Status) → not (is_unused s) ≡ false → s ≡ Unused
+-- a Scope that is not in use is unused
+pub is_unused_lem : (s : Status) → not (is_unused s) ≡ false → s ≡ Unused
 is_unused_lem Unused h = refl
 is_unused_lem Stood h = absurd (false≢true (sym h))
 is_unused_lem Joined h = absurd (false≢true (sym h))
@@ -80,9 +81,9 @@ is_unused_lem Flattened h = absurd (false≢true (sym h))
 
 module _ (σ : State) (h : WellFormed σ) where
   formed_put : (p : Put) → keeps (entry.Put p) ≡ true → Accepts σ (entry.Put p) → WellFormed (after σ (entry.Put p))
-  formed_put (put.Type t) k a = record { rows = type_put σ.rows (statuses σ.scopes) h.rows t a.room_is k; scopes = h.scopes; tree = h.tree }
+  formed_put (put.Type k s) _ a = record { rows = type_put σ.rows (statuses σ.scopes) h.rows k s a.room_is; scopes = h.scopes; tree = h.tree }
   formed_put (put.Identifier i) k a = record { rows = identifier_put σ.rows (statuses σ.scopes) h.rows i a.room_is k a.named_is; scopes = h.scopes; tree = h.tree }
-  formed_put (put.Path p) k a = record { rows = path_put σ.rows (statuses σ.scopes) h.rows p a.room_is k; scopes = h.scopes; tree = h.tree }
+  formed_put (put.Path low high k o) _ a = record { rows = path_put σ.rows (statuses σ.scopes) h.rows low high k o a.room_is; scopes = h.scopes; tree = h.tree }
   formed_put (put.Read r) k a = record { rows = read_put σ.rows (statuses σ.scopes) h.rows r a.room_is a.named_is; scopes = h.scopes; tree = h.tree }
   formed_put (put.Shape s) k a = record { rows = shape_put σ.rows (statuses σ.scopes) h.rows s a.room_is k; scopes = h.scopes; tree = h.tree }
   formed_put (put.Scope start end) k a =

@@ -1,6 +1,6 @@
 -- The levels of values, one value more.
-use Rattle.std.proofs.Common.{◌≡◌, ℕ, ◌+◌, ◌<◌, Bool, true, false, ◌&&◌, ltb, leb, List, [], ◌∷◌, ◌++◌, length, get_or, take, drop, set, sym, refl, ap, ◌∙◌}
-use Rattle.std.proofs.lemmas.List.{drop_more, take_more_set}
+use Rattle.std.proofs.Common.{◌≡◌, ℕ, ◌+◌, ◌<◌, Bool, true, false, ◌&&◌, ltb, leb, List, [], ◌∷◌, ◌++◌, length, get_or, drop, refl, ap, ◌∙◌}
+use Rattle.std.proofs.lemmas.List.{drop_more}
 use Rattle.std.proofs.lemmas.Bool.{lt-leb, le-leb, ltb-false}
 use Rattle.screen.specs.Lists.{every}
 use Rattle.screen.specs.Levels.{level_after, levels_from, levels_of}
@@ -26,13 +26,6 @@ levels_spoilt p levels (v ∷ vs) h = levels_spoilt p (levels ++ level_after lev
 pub levels_more : (vs : List ValueRow) (levels : List ℕ) (i : ℕ) → i < length vs
     → levels_from levels (drop i vs) ≡ levels_from (levels ++ level_after levels (get_or vs i no_value) ∷ []) (drop (i + 1) vs)
 levels_more vs levels i h = ap (levels_from levels) (drop_more vs i no_value h)
-
--- the level of value i is written behind those before it
-pub levels_written : (vs : List ValueRow) (levels : List ℕ) (i x : ℕ) → i < length vs → i < length levels → x ≡ level_after (take i levels) (get_or vs i no_value)
-    → levels_from (take i levels) (drop i vs) ≡ levels_from (take (i + 1) (set levels i x)) (drop (i + 1) vs)
-levels_written vs levels i x h l e =
-    levels_more vs (take i levels) i h
-    ∙ ap (λ ys. levels_from ys (drop (i + 1) vs)) (ap (λ y. take i levels ++ y ∷ []) (sym e) ∙ sym (take_more_set levels i x l))
 
 -- a level past 64 spoils them all
 pub levels_too_deep : (vs : List ValueRow) (levels : List ℕ) (i : ℕ) → i < length vs → 64 < level_after levels (get_or vs i no_value) → every (λ n. leb n 64) (levels_from levels (drop i vs)) ≡ false

@@ -1,12 +1,12 @@
 -- Over a run, each Scope that was opened stands, or is joined or flattened.
-use Rattle.std.proofs.Common.{◌≡◌, ℕ, zero, suc, ◌+◌, ◌-◌, ◌<◌, Bool, true, false, cond, not, List, [], ◌∷◌, ◌++◌, length, get_or, set, Some, None, Option, sym, refl, ap, ◌∙◌, arith}
-use Rattle.std.proofs.lemmas.Bool.{ltb-true, false≢true}
+use Rattle.std.proofs.Common.{◌≡◌, ℕ, zero, suc, ◌+◌, ◌-◌, ◌<◌, Bool, true, false, cond, List, [], ◌∷◌, ◌++◌, length, get_or, set, Some, None, Option, sym, refl, ap, ◌∙◌, arith}
+use Rattle.std.proofs.lemmas.Bool.{ltb-true}
 use Rattle.block.specs.declared.record.Record.{Record}
 use Rattle.screen.specs.Entries.{entry_of}
 use Rattle.screen.specs.Rules.{Meaning}
 use Rattle.screen.specs.State.{State, Scope, new}
-use Rattle.screen.specs.Statuses.{is_unused, is_standing, is_joined}
-use Rattle.screen.specs.Refused.{statuses, top_of, in_use, refused_of}
+use Rattle.screen.specs.Statuses.{is_standing, is_joined}
+use Rattle.screen.specs.Refused.{statuses, top_of, refused_of}
 use Rattle.screen.specs.Step.{also, altered, stood, reassigned, declaring, after, taking, asked, step}
 use Rattle.screen.specs.WellFormed.{WellFormed}
 use Rattle.screen.specs.MergeLaws.{is_flattened, how_many}
@@ -14,14 +14,14 @@ use Rattle.screen.specs.Runs.{Reply, answered, is_merge, merge_at, step_if, Aske
 use Rattle.screen.specs.RunLaws.{OpensAlwaysAddUp}
 use Rattle.screen.specs.declared.node.Node.TheVariants as node
 use Rattle.screen.specs.declared.scope.Status.{Status}
-use Rattle.screen.specs.declared.scope.Status.TheVariants.{Unused, Standing, Joined, Flattened}
+use Rattle.screen.specs.declared.scope.Status.TheVariants.{Unused, Standing}
 use Rattle.screen.specs.declared.entry.Entry.{Entry}
 use Rattle.screen.specs.declared.entry.Entry.TheVariants as entry
 use Rattle.screen.specs.declared.entry.Put.TheVariants as put
 use Rattle.screen.specs.declared.entry.Part.TheVariants as part
 use Rattle.screen.specs.declared.answer.Refusal.{Refusal}
 use Rattle.screen.proofs.Accepting.{accepted}
-use Rattle.screen.proofs.Forming.{Accepts, formed_new}
+use Rattle.screen.proofs.Forming.{Accepts, formed_new, is_unused_lem}
 use Rattle.screen.proofs.Scoping.{statuses_kept, statuses_stood, statuses_fresh}
 use Rattle.screen.proofs.Fates.{counts_add_up}
 use Rattle.screen.proofs.RunForming.{formed_of}
@@ -91,19 +91,10 @@ tally_stood ss k l u =
         let c : ◌≡◌ {A = ℕ} (cond (q (get_or (statuses ss) k Unused)) 1 0) (cond (q Unused) 1 0) = ap (λ s. cond (q s) 1 0) u in
         omega (arith, a, b, c, many_statuses q ss)
 
-is_unused_lem : (ss : List Status) (k : ℕ) → in_use ss k ≡ false → get_or ss k Unused ≡ Unused
-is_unused_lem ss k = go (get_or ss k Unused)
-  where
-    go : (s : Status) → not (is_unused s) ≡ false → s ≡ Unused
-    go Unused h = refl
-    go Standing h = absurd (false≢true (sym h))
-    go Joined h = absurd (false≢true (sym h))
-    go Flattened h = absurd (false≢true (sym h))
-
 tally_entry : (σ : State) (e : Entry) → Accepts σ e → Tally σ.scopes (after σ e).scopes (opens_entry e) 0 0
-tally_entry σ (entry.Put (put.Type t)) a = tally_none σ.scopes
+tally_entry σ (entry.Put (put.Type k s)) a = tally_none σ.scopes
 tally_entry σ (entry.Put (put.Identifier i)) a = tally_none σ.scopes
-tally_entry σ (entry.Put (put.Path p)) a = tally_none σ.scopes
+tally_entry σ (entry.Put (put.Path l h k o)) a = tally_none σ.scopes
 tally_entry σ (entry.Put (put.Scope b z)) a = tally_fresh σ.scopes _ (statuses_fresh σ.scopes b z (length σ.rows.dependencies))
 tally_entry σ (entry.Put (put.Read r)) a = tally_none σ.scopes
 tally_entry σ (entry.Put (put.Shape s)) a = tally_none σ.scopes
@@ -117,7 +108,7 @@ tally_entry σ (entry.Node (node.Add o v t)) a = tally_none σ.scopes
 tally_entry σ (entry.Node (node.Terminal k o v)) a = tally_none σ.scopes
 tally_entry σ (entry.Node node.Arm) a = tally_none σ.scopes
 tally_entry σ (entry.Node (node.Scope k)) a =
-    tally_stood σ.scopes k (ltb-true k (length (statuses σ.scopes)) a.named_is) (is_unused_lem (statuses σ.scopes) k a.used_is)
+    tally_stood σ.scopes k (ltb-true k (length (statuses σ.scopes)) a.named_is) (is_unused_lem (get_or (statuses σ.scopes) k Unused) a.used_is)
 tally_entry σ (entry.Node (node.Pruned k)) a = tally_none σ.scopes
 tally_entry σ entry.Close a = tally_none σ.scopes
 tally_entry σ entry.List a = tally_none σ.scopes

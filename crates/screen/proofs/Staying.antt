@@ -102,9 +102,9 @@ pub record Longer (w : Rows) (ss : List Status) (w' : Rows) (ss' : List Status) 
 
 module _ (w : Rows) (ss : List Status) (w' : Rows) (ss' : List Status) (l : Longer w ss w' ss') where
   put_stays : (p : Put) → put_named w p ≡ true → put_named w' p ≡ true
-  put_stays (put.Type t) h = refl
+  put_stays (put.Type k s) h = refl
   put_stays (put.Identifier i) h = is_put_stays w.types w'.types l.types i.typ h
-  put_stays (put.Path p) h = refl
+  put_stays (put.Path low high k o) h = refl
   put_stays (put.Scope a z) h = refl
   put_stays (put.Read r) h = is_put_stays w.identifiers w'.identifiers l.identifiers r.identifier h
   put_stays (put.Shape s) h = refl

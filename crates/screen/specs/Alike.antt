@@ -1,5 +1,6 @@
 -- When two entries are alike. `like` is what a rule says of two path entries, so that the rest is said once for all rules.
-use Rattle.std.specs.Prelude.{Bool, true, false, ◌&&◌, ◌||◌, List, [], ◌∷◌, ◌==◌}
+use Rattle.std.specs.Prelude.{Bool, true, false, ◌&&◌, List, [], ◌∷◌, ◌==◌}
+use Rattle.std.specs.List.{list_any}
 use Rattle.screen.specs.Lists.{every}
 use Rattle.screen.specs.Rules.{Dep}
 use Rattle.screen.specs.declared.rows.PathRow.{PathRow}
@@ -21,8 +22,7 @@ alike like x y = x.declaration == y.declaration && paths_alike like x.path y.pat
 
 -- x is alike to one of these
 abbrev pub found : (PathRow → PathRow → Bool) → Dep → List Dep → Bool
-found like x [] = false
-found like x (y ∷ ys) = alike like x y || found like x ys
+found like x ys = list_any (alike like x) ys
 
 -- each of the first is alike to one of the second
 abbrev pub covered : (PathRow → PathRow → Bool) → List Dep → List Dep → Bool

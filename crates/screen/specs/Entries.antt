@@ -2,6 +2,10 @@
 use Rattle.std.specs.Prelude.{ℕ, Bool, cond, ◌&&◌, ◌||◌, Some, None, Option, ◌==◌, nat_le, nat_lt}
 use Rattle.block.specs.declared.record.Record.{Record}
 use Rattle.screen.specs.Values.{optional}
+use Rattle.screen.specs.Kinds.{terminal_kind_of, type_kind_of, path_kind_of}
+use Rattle.screen.specs.declared.kinds.TerminalKind.{TerminalKind}
+use Rattle.screen.specs.declared.kinds.TypeKind.{TypeKind}
+use Rattle.screen.specs.declared.kinds.PathKind.{PathKind}
 use Rattle.screen.specs.declared.node.Node.{Node}
 use Rattle.screen.specs.declared.node.Node.TheVariants as node
 use Rattle.screen.specs.declared.entry.Entry.{Entry}
@@ -21,14 +25,24 @@ order n = nat_lt n 4294967295
 abbrev pub blank : ℕ → Bool
 blank n = n == 0
 
+-- a type, once its kind is known
+abbrev pub type_by : Record → Option TypeKind → Option Entry
+type_by x None = None
+type_by x (Some k) = listed (blank x.q && blank x.s && blank x.t) (entry.Put (put.Type k x.r))
+
 abbrev pub type_entry : Record → Option Entry
-type_entry x = listed (nat_le x.p 7 && blank x.q && blank x.s && blank x.t) (entry.Put (put.Type (record { shape = x.r; kind = x.p })))
+type_entry x = type_by x (type_kind_of x.p)
 
 abbrev pub identifier_entry : Record → Option Entry
 identifier_entry x = listed (nat_le x.r 1023 && blank x.p && blank x.q && blank x.t) (entry.Put (put.Identifier (record { declaration = x.r; typ = x.s })))
 
+-- a path entry, once its kind is known
+abbrev pub path_by : Record → Option PathKind → Option Entry
+path_by x None = None
+path_by x (Some k) = listed (nat_le x.p 1 && blank x.t) (entry.Put (put.Path x.r x.s k (x.p == 1)))
+
 abbrev pub path_entry : Record → Option Entry
-path_entry x = listed (nat_le x.p 1 && nat_le x.q 1 && blank x.t) (entry.Put (put.Path (record { low = x.r; high = x.s; kind = x.q; optional = x.p })))
+path_entry x = path_by x (path_kind_of x.q)
 
 abbrev pub scope_entry : Record → Option Entry
 scope_entry x = listed (order x.r && order x.s && blank x.p && blank x.q && blank x.t) (entry.Put (put.Scope x.r x.s))
@@ -63,8 +77,13 @@ value_entry x = listed (value_listed x) (entry.Value (record { r = x.r; s = x.s;
 abbrev pub add_entry : Record → Option Entry
 add_entry x = listed (order x.r && blank x.p && blank x.q) (entry.Node (node.Add x.r x.s (optional x.t)))
 
+-- a terminal, once its kind is known
+abbrev pub terminal_by : Record → Option TerminalKind → Option Entry
+terminal_by x None = None
+terminal_by x (Some k) = listed (order x.r && blank x.t) (entry.Node (node.Terminal k x.r (optional x.s)))
+
 abbrev pub terminal_entry : Record → Option Entry
-terminal_entry x = listed (nat_le x.q 12 && order x.r && blank x.t) (entry.Node (node.Terminal x.q x.r (optional x.s)))
+terminal_entry x = terminal_by x (terminal_kind_of x.q)
 
 abbrev pub arm_entry : Record → Option Entry
 arm_entry x = listed (blank x.q && blank x.r && blank x.s && blank x.t) (entry.Node node.Arm)

@@ -1,3 +1,4 @@
+pub mod Kinds
 pub mod Numbers
 pub mod Values
 pub mod Entries

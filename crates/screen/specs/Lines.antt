@@ -1,5 +1,5 @@
 -- The lines that List writes: each node but the body, a node before its children, siblings in order.
-use Rattle.std.specs.Prelude.{ℕ, ◌+◌, List, [], ◌∷◌, ◌++◌, slice_index}
+use Rattle.std.specs.Prelude.{ℕ, ◌+◌, List, [], ◌∷◌, ◌++◌, slice_index, cond, codes, decimal, encode_utf8, ◌==◌}
 use Rattle.screen.specs.Forest.{Forest, bare, tree}
 use Rattle.screen.specs.declared.node.Node.{Node}
 use Rattle.screen.specs.declared.node.Node.TheVariants.{Body, Add, Terminal, Arm, Scope, Pruned}
@@ -22,3 +22,7 @@ line_of ends level n (Pruned k) = plain level n 80
 abbrev pub lines_of : List ℕ → ℕ → Forest → List Line
 lines_of ends level bare = []
 lines_of ends level (tree n x cs ss) = line_of ends level n x ∷ (lines_of ends (level + 1) cs ++ lines_of ends level ss)
+
+-- a line as text: its level, letter and node, and for S also its Scope and where that ends
+abbrev pub line_text : Line → List ℕ
+line_text l = decimal l.level ++ codes " " ++ encode_utf8 l.letter ++ codes " " ++ decimal l.node ++ cond (l.letter == 83) (codes " " ++ decimal l.scope ++ codes " " ++ decimal l.end) []

@@ -1,15 +1,14 @@
 -- Tests over lists, which compute.
-use Rattle.std.specs.Prelude.{ℕ, ◌+◌, Bool, true, false, not, ◌&&◌, ◌||◌, List, [], ◌∷◌, ◌++◌, length, Some, None, Option, ◌==◌, nat_le, nat_lt}
+use Rattle.std.specs.Prelude.{ℕ, ◌+◌, Bool, true, not, ◌&&◌, List, [], ◌∷◌, length, Option, ◌==◌, nat_le, nat_lt}
+use Rattle.std.specs.List.{list_all, list_any, flat_map, filter_map}
 
 -- each element passes
 abbrev pub every : {A : Type 0} → (A → Bool) → List A → Bool
-every p [] = true
-every p (x ∷ xs) = p x && every p xs
+every p xs = list_all p xs
 
 -- k is among them
 abbrev pub member : ℕ → List ℕ → Bool
-member k [] = false
-member k (x ∷ xs) = x == k || member k xs
+member k xs = list_any (λ x. x == k) xs
 
 -- no number stands twice
 abbrev pub distinct : List ℕ → Bool
@@ -18,14 +17,11 @@ distinct (x ∷ xs) = not (member x xs) && distinct xs
 
 -- what a function makes of each, one after the other
 abbrev pub gathered : {A : Type 0} → (A → List ℕ) → List A → List ℕ
-gathered f [] = []
-gathered f (x ∷ xs) = f x ++ gathered f xs
+gathered f xs = flat_map f xs
 
 -- the numbers that are there
 abbrev pub present : List (Option ℕ) → List ℕ
-present [] = []
-present (None ∷ os) = present os
-present (Some k ∷ os) = k ∷ present os
+present os = filter_map (λ o. o) os
 
 -- row n is put
 abbrev pub is_put : {A : Type 0} → List A → ℕ → Bool

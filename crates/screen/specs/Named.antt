@@ -65,9 +65,9 @@ node_named is vs ss (node.Pruned k) = is_put ss k
 
 -- the row that a new row names
 abbrev pub put_named : Rows → Put → Bool
-put_named rows (put.Type t) = true
+put_named rows (put.Type k s) = true
 put_named rows (put.Identifier i) = is_put rows.types i.typ
-put_named rows (put.Path p) = true
+put_named rows (put.Path l h k o) = true
 put_named rows (put.Scope a z) = true
 put_named rows (put.Read r) = is_put rows.identifiers r.identifier
 put_named rows (put.Shape s) = true

@@ -1,5 +1,8 @@
 -- The record that would put a row as it stands: its fields must keep that record's list.
-use Rattle.std.specs.Prelude.{ℕ}
+use Rattle.std.specs.Prelude.{ℕ, Bool, cond}
+use Rattle.screen.specs.Kinds.{type_number, path_number}
+use Rattle.screen.specs.declared.kinds.TypeKind.{TypeKind}
+use Rattle.screen.specs.declared.kinds.PathKind.{PathKind}
 use Rattle.block.specs.declared.record.Record.{Record}
 use Rattle.screen.specs.declared.rows.TypeRow.{TypeRow}
 use Rattle.screen.specs.declared.rows.IdentifierRow.{IdentifierRow}
@@ -8,6 +11,13 @@ use Rattle.screen.specs.declared.rows.DependencyRow.{DependencyRow}
 use Rattle.screen.specs.declared.rows.ReadRow.{ReadRow}
 use Rattle.screen.specs.declared.rows.ValueRow.{ValueRow}
 use Rattle.screen.specs.declared.rows.ShapeRow.{ShapeRow}
+
+-- the rows of a type and of a path entry, which keep their kinds as numbers
+abbrev pub type_row : TypeKind → ℕ → TypeRow
+type_row k s = record { shape = s; kind = type_number k }
+
+abbrev pub path_row : ℕ → ℕ → PathKind → Bool → PathRow
+path_row l h k o = record { low = l; high = h; kind = path_number k; optional = cond o 1 0 }
 
 abbrev pub type_record : TypeRow → Record
 type_record t = record { tag = 1; p = t.kind; q = 0; r = t.shape; s = 0; t = 0 }

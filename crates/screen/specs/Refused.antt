@@ -61,9 +61,9 @@ abbrev pub full : {A : Type 0} → ℕ → List A → Bool
 full limit rows = nat_le limit (length rows)
 
 abbrev pub put_full : Rows → List Status → Put → Bool
-put_full rows ss (put.Type t) = full 256 rows.types
+put_full rows ss (put.Type k s) = full 256 rows.types
 put_full rows ss (put.Identifier i) = full 1024 rows.identifiers
-put_full rows ss (put.Path p) = full 1024 rows.paths
+put_full rows ss (put.Path l h k o) = full 1024 rows.paths
 put_full rows ss (put.Scope a z) = full 256 ss
 put_full rows ss (put.Read r) = full 1024 rows.reads
 put_full rows ss (put.Shape s) = full 16 rows.shapes

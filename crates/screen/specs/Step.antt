@@ -7,6 +7,7 @@ use Rattle.screen.specs.Open.{grow}
 use Rattle.screen.specs.State.{State, Rows, Scope, Declaration}
 use Rattle.screen.specs.Lines.{lines_of}
 use Rattle.screen.specs.Refused.{refused_of}
+use Rattle.screen.specs.Records.{type_row, path_row}
 use Rattle.screen.specs.declared.node.Node.{Node}
 use Rattle.screen.specs.declared.node.Node.TheVariants as node
 use Rattle.screen.specs.declared.scope.Status.TheVariants.{Unused, Standing}
@@ -85,9 +86,9 @@ with_nodes w xs = record { types = w.types; identifiers = w.identifiers; paths =
 
 -- the rows after a new row
 abbrev pub rows_put : Rows → Put → Rows
-rows_put w (put.Type t) = with_types w (also w.types t)
+rows_put w (put.Type k s) = with_types w (also w.types (type_row k s))
 rows_put w (put.Identifier i) = with_identifiers w (also w.identifiers i)
-rows_put w (put.Path p) = with_paths w (also w.paths p)
+rows_put w (put.Path l h k o) = with_paths w (also w.paths (path_row l h k o))
 rows_put w (put.Scope a z) = w
 rows_put w (put.Read r) = with_reads w (also w.reads r)
 rows_put w (put.Shape s) = with_shapes w (also w.shapes s)
@@ -117,9 +118,9 @@ opened ss (node.Pruned k) = ss
 
 -- a new Scope's dependencies begin after those that are put
 abbrev pub scopes_put : List Scope → ℕ → Put → List Scope
-scopes_put ss n (put.Type t) = ss
+scopes_put ss n (put.Type k s) = ss
 scopes_put ss n (put.Identifier i) = ss
-scopes_put ss n (put.Path p) = ss
+scopes_put ss n (put.Path l h k o) = ss
 scopes_put ss n (put.Scope a z) = also ss (fresh a z n)
 scopes_put ss n (put.Read r) = ss
 scopes_put ss n (put.Shape s) = ss

@@ -42,11 +42,11 @@ abbrev pub values_kept : List IdentifierRow → List ReadRow → List ValueRow �
 values_kept is rs before [] = true
 values_kept is rs before (v ∷ vs) = value_kept is rs before v && values_kept is rs (before ++ v ∷ []) vs
 
--- a node's order and kind keep their list; the body is node 0 alone
+-- a node's order keeps its list; the body is node 0 alone
 abbrev pub node_listed : Node → Bool
 node_listed Body = false
 node_listed (Add o v t) = order o
-node_listed (Terminal k o v) = nat_le k 12 && order o
+node_listed (Terminal k o v) = order o
 node_listed Arm = true
 node_listed (node.Scope k) = true
 node_listed (Pruned k) = true

@@ -1,38 +1,60 @@
-//! What a record asks for, read off its fields.
+//! What a record asks for, read off its fields. Here its numbers become enums: a tag, p of an Open, the kind of a value and the mark of a
+//! path entry stand as numbers here, in a row's record, and where a row becomes a `Value`. An enum of the numbers alone would be no plainer:
+//! it would be taken apart at once, into the `Entry`, the `Node` or the `Value` that it stands for.
 
 ghost use Rattle.std.specs.Prelude.{◌≡◌, ◌&&◌, ◌||◌, ◌==◌, nat_lt};
-ghost use Rattle.screen.specs.Entries.{entry_by, entry_of, node_of, type_entry, identifier_entry, path_entry, scope_entry, dependency_entry, declaration_entry, reassignment_entry, read_entry, value_listed, value_entry, add_entry, terminal_entry, arm_entry, opened_entry, open_entry, plain_entry, shape_entry, blank};
+ghost use Rattle.std.specs.Option.{ok_or};
+ghost use Rattle.screen.specs.declared.answer.Refusal.TheVariants.{Field};
+ghost use Rattle.screen.specs.Entries.{entry_of, node_of, listed, type_entry, identifier_entry, path_entry, scope_entry, dependency_entry, declaration_entry, reassignment_entry, read_entry, value_listed, value_entry, add_entry, terminal_entry, arm_entry, opened_entry, open_entry, plain_entry, shape_entry, blank};
 
+use crate::answer::Refusal;
+use crate::id::{IdentifierId, ScopeId, ValueId};
+use crate::kinds::{PathKind, TerminalKind, TypeKind};
 use crate::node::Node;
-use crate::rows::{
-    DependencyRow, IdentifierRow, NONE, PathRow, ReadRow, ShapeRow, TypeRow, ValueRow,
-};
+use crate::rows::{DependencyRow, IdentifierRow, NONE, ReadRow, ShapeRow, ValueRow};
 use crate::value::optional;
 use block::Record;
 
 /// A row to be put, which stands for itself.
-#[derive(Clone, Copy)]
+#[derive(Clone, Copy, Debug, PartialEq, Eq)]
 pub enum Put {
-    Type(TypeRow),
+    Type {
+        kind: TypeKind,
+        shape: u32,
+    },
     Identifier(IdentifierRow),
-    Path(PathRow),
+    /// A path entry of the kind: the low and the high half of it.
+    Path {
+        low: u32,
+        high: u32,
+        kind: PathKind,
+        optional: bool,
+    },
     /// A Scope of this range.
-    Scope { start: u32, end: u32 },
+    Scope {
+        start: u32,
+        end: u32,
+    },
     Read(ReadRow),
     Shape(ShapeRow),
 }
 
 /// A part of the Scope put last.
-#[derive(Clone, Copy)]
+#[derive(Clone, Copy, Debug, PartialEq, Eq)]
 pub enum Part {
     Dependency(DependencyRow),
     /// Its key and what it declares, both identifiers.
-    Declaration { key: u32, declared: u32 },
-    Reassignment { identifier: u32 },
+    Declaration {
+        key: IdentifierId,
+        declared: IdentifierId,
+    },
+    Reassignment {
+        identifier: IdentifierId,
+    },
 }
 
 /// A record whose fields keep their list.
-#[derive(Clone, Copy)]
+#[derive(Clone, Copy, Debug, PartialEq, Eq)]
 pub enum Entry {
     Put(Put),
     Part(Part),
@@ -43,30 +65,26 @@ pub enum Entry {
     List,
 }
 
-impl Node {
+impl From<Record> for Node {
+    ghost from_gives = { λ x node. node ≡ node_of x };
+
     /// The node that a record made. The body's record is all zeros.
-    pub fn made_by(x: Record) -> Node
-        ensures { result ≡ node_of x }
-    {
-        match Entry::of(x) {
-            Some(Entry::Node(node)) => node,
+    fn from(x: Record) -> Node {
+        match Entry::try_from(x) {
+            Ok(Entry::Node(node)) => node,
             _ => Node::Body,
         }
     }
 }
 
-impl Entry {
-    /// What a record asks for, or none where its tag is unknown or a field breaks its list.
-    pub fn of(x: Record) -> Option<Entry>
-        ensures { result ≡ entry_of x }
-    {
-        Entry::by_tag(x)
-    }
+impl TryFrom<Record> for Entry {
+    type Error = Refusal;
 
-    /// The same, by its tag.
-    fn by_tag(x: Record) -> Option<Entry>
-        ensures { result ≡ entry_by x }
-    {
+    ghost try_from_gives = { λ x entry. entry ≡ ok_or (entry_of x) Field };
+
+    /// What a record asks for. Its tag may be unknown, or a field break its list. Each tag has a list of its own, and so a function.
+    #[tactic(auto, unfolding(crate::specs::Entries::entry_of))]
+    fn try_from(x: Record) -> Result<Entry, Refusal> {
         match x.tag {
             1 => type_entry(x),
             2 => identifier_entry(x),
@@ -82,119 +100,135 @@ impl Entry {
             12 => plain_entry(x, Entry::Close),
             14 => plain_entry(x, Entry::List),
             15 => shape_entry(x),
-            _ => None,
+            _ => Err(Refusal::Field),
         }
     }
 }
 
-/// A type: p its kind, r its shape.
-fn type_entry(x: Record) -> Option<Entry>
-    ensures { result ≡ type_entry x }
+/// The entry, where the fields of its record keep their list.
+fn listed(keeps: bool, entry: Entry) -> Result<Entry, Refusal>
+    ensures { result ≡ ok_or (listed keeps entry) Field }
 {
-    if x.p <= 7 && x.q == 0 && x.s == 0 && x.t == 0 {
-        Some(Entry::Put(Put::Type(TypeRow {
-            shape: x.r,
-            kind: x.p,
-        })))
+    if keeps {
+        Ok(entry)
     } else {
-        None
+        Err(Refusal::Field)
     }
+}
+
+/// A type: p its kind, r its shape.
+fn type_entry(x: Record) -> Result<Entry, Refusal>
+    ensures { result ≡ ok_or (type_entry x) Field }
+{
+    let kind = TypeKind::try_from(x.p)?;
+    listed(
+        x.q == 0 && x.s == 0 && x.t == 0,
+        Entry::Put(Put::Type { kind, shape: x.r }),
+    )
 }
 
 /// An identifier: r its declaration, s its type.
-fn identifier_entry(x: Record) -> Option<Entry>
-    ensures { result ≡ identifier_entry x }
+fn identifier_entry(x: Record) -> Result<Entry, Refusal>
+    ensures { result ≡ ok_or (identifier_entry x) Field }
 {
-    if x.r <= 1023 && x.p == 0 && x.q == 0 && x.t == 0 {
-        Some(Entry::Put(Put::Identifier(IdentifierRow {
+    listed(
+        x.r <= 1023 && x.p == 0 && x.q == 0 && x.t == 0,
+        Entry::Put(Put::Identifier(IdentifierRow {
             declaration: x.r,
             typ: x.s,
-        })))
-    } else {
-        None
-    }
+        })),
+    )
 }
 
 /// A path entry: p whether it is optional, q whether it is a number, r and s its halves.
-fn path_entry(x: Record) -> Option<Entry>
-    ensures { result ≡ path_entry x }
+fn path_entry(x: Record) -> Result<Entry, Refusal>
+    ensures { result ≡ ok_or (path_entry x) Field }
 {
-    if x.p <= 1 && x.q <= 1 && x.t == 0 {
-        Some(Entry::Put(Put::Path(PathRow {
+    let kind = PathKind::try_from(x.q)?;
+    listed(
+        x.p <= 1 && x.t == 0,
+        Entry::Put(Put::Path {
             low: x.r,
             high: x.s,
-            kind: x.q,
-            optional: x.p,
-        })))
-    } else {
-        None
-    }
+            kind,
+            optional: x.p == 1,
+        }),
+    )
 }
 
 /// A Scope: r the start and s the end of its range, two orders.
-fn scope_entry(x: Record) -> Option<Entry>
-    ensures { result ≡ scope_entry x }
+fn scope_entry(x: Record) -> Result<Entry, Refusal>
+    ensures { result ≡ ok_or (scope_entry x) Field }
 {
-    if x.r < NONE && x.s < NONE && x.p == 0 && x.q == 0 && x.t == 0 {
-        Some(Entry::Put(Put::Scope {
+    listed(
+        x.r < NONE && x.s < NONE && x.p == 0 && x.q == 0 && x.t == 0,
+        Entry::Put(Put::Scope {
             start: x.r,
             end: x.s,
-        }))
-    } else {
-        None
-    }
+        }),
+    )
 }
 
 /// A dependency: r its identifier, q path entries from s on; with none of them s is 0.
-fn dependency_entry(x: Record) -> Option<Entry>
-    ensures { result ≡ dependency_entry x }
+fn dependency_entry(x: Record) -> Result<Entry, Refusal>
+    ensures { result ≡ ok_or (dependency_entry x) Field }
 {
     let from = x.q > 0 || x.s == 0;
-    if from && x.p == 0 && x.t == 0 {
-        Some(Entry::Part(Part::Dependency(DependencyRow {
+    listed(
+        from && x.p == 0 && x.t == 0,
+        Entry::Part(Part::Dependency(DependencyRow {
             identifier: x.r,
             first: x.s,
             length: x.q,
-        })))
-    } else {
-        None
-    }
+        })),
+    )
 }
 
 /// A declaration: r its key and s what it declares, two identifiers.
-fn declaration_entry(x: Record) -> Option<Entry>
-    ensures { result ≡ declaration_entry x }
+fn declaration_entry(x: Record) -> Result<Entry, Refusal>
+    ensures { result ≡ ok_or (declaration_entry x) Field }
 {
-    if x.p == 0 && x.q == 0 && x.t == 0 {
-        Some(Entry::Part(Part::Declaration {
-            key: x.r,
-            declared: x.s,
-        }))
-    } else {
-        None
-    }
+    listed(
+        x.p == 0 && x.q == 0 && x.t == 0,
+        Entry::Part(Part::Declaration {
+            key: IdentifierId::from(x.r),
+            declared: IdentifierId::from(x.s),
+        }),
+    )
+}
+
+/// Whether no field but r says anything.
+fn names_r_alone(x: Record) -> bool
+    ensures { result ≡ blank x.p && blank x.q && blank x.s && blank x.t }
+{
+    let bare = Record {
+        tag: x.tag,
+        r: x.r,
+        ..Record::default()
+    };
+    x == bare
 }
 
 /// A reassignment of the identifier r.
-fn reassignment_entry(x: Record) -> Option<Entry>
-    ensures { result ≡ reassignment_entry x }
+fn reassignment_entry(x: Record) -> Result<Entry, Refusal>
+    ensures { result ≡ ok_or (reassignment_entry x) Field }
 {
-    if x.p == 0 && x.q == 0 && x.s == 0 && x.t == 0 {
-        Some(Entry::Part(Part::Reassignment { identifier: x.r }))
-    } else {
-        None
-    }
+    listed(
+        names_r_alone(x),
+        Entry::Part(Part::Reassignment {
+            identifier: IdentifierId::from(x.r),
+        }),
+    )
 }
 
 /// A read of the identifier r.
-fn read_entry(x: Record) -> Option<Entry>
-    ensures { result ≡ read_entry x }
+fn read_entry(x: Record) -> Result<Entry, Refusal>
+    ensures { result ≡ ok_or (read_entry x) Field }
 {
-    if x.p == 0 && x.q == 0 && x.s == 0 && x.t == 0 {
-        Some(Entry::Put(Put::Read(ReadRow { identifier: x.r })))
-    } else {
-        None
-    }
+    listed(
+        names_r_alone(x),
+        Entry::Put(Put::Read(ReadRow { identifier: x.r })),
+    )
 }
 
 /// Whether an instruction's fields keep their list: q reads from r on, 0 where there are none, and no store.
@@ -205,7 +239,7 @@ fn plain_listed(x: Record) -> bool
     from && x.s == NONE && x.t == 0
 }
 
-/// Whether a value's fields keep the list of its kind p.
+/// Whether a value's fields keep the list of its kind p. `Value` is the enum of these kinds, which a row becomes once it keeps its list.
 fn value_listed(x: Record) -> bool
     ensures { result ≡ value_listed x }
 {
@@ -222,82 +256,79 @@ fn value_listed(x: Record) -> bool
 }
 
 /// A value of the kind p.
-fn value_entry(x: Record) -> Option<Entry>
-    ensures { result ≡ value_entry x }
+fn value_entry(x: Record) -> Result<Entry, Refusal>
+    ensures { result ≡ ok_or (value_entry x) Field }
 {
-    if value_listed(x) {
-        Some(Entry::Value(ValueRow {
+    listed(
+        value_listed(x),
+        Entry::Value(ValueRow {
             r: x.r,
             s: x.s,
             t: x.t,
             q: x.q,
             kind: x.p,
-        }))
-    } else {
-        None
-    }
+        }),
+    )
 }
 
 /// An instruction: r its order, s its value, t its target or none.
-fn add_entry(x: Record) -> Option<Entry>
-    ensures { result ≡ add_entry x }
+fn add_entry(x: Record) -> Result<Entry, Refusal>
+    ensures { result ≡ ok_or (add_entry x) Field }
 {
-    if x.r < NONE && x.p == 0 && x.q == 0 {
-        Some(Entry::Node(Node::Add {
+    listed(
+        x.r < NONE && x.p == 0 && x.q == 0,
+        Entry::Node(Node::Add {
             order: x.r,
-            value: x.s,
-            target: optional(x.t),
-        }))
-    } else {
-        None
-    }
+            value: ValueId::from(x.s),
+            target: optional(x.t).map(IdentifierId::from),
+        }),
+    )
 }
 
 /// A terminal of the kind q: r its order, s its value or none.
-fn terminal_entry(x: Record) -> Option<Entry>
-    ensures { result ≡ terminal_entry x }
+fn terminal_entry(x: Record) -> Result<Entry, Refusal>
+    ensures { result ≡ ok_or (terminal_entry x) Field }
 {
-    if x.q <= 12 && x.r < NONE && x.t == 0 {
-        Some(Entry::Node(Node::Terminal {
-            kind: x.q,
+    let kind = TerminalKind::try_from(x.q)?;
+    listed(
+        x.r < NONE && x.t == 0,
+        Entry::Node(Node::Terminal {
+            kind,
             order: x.r,
-            value: optional(x.s),
-        }))
-    } else {
-        None
-    }
+            value: optional(x.s).map(ValueId::from),
+        }),
+    )
 }
 
-/// An arm, which has no field.
-fn arm_entry(x: Record) -> Option<Entry>
-    ensures { result ≡ arm_entry x }
+/// An arm, which has no field. Its p is given, and a record to compare the other four with would be no shorter.
+fn arm_entry(x: Record) -> Result<Entry, Refusal>
+    ensures { result ≡ ok_or (arm_entry x) Field }
 {
-    if x.q == 0 && x.r == 0 && x.s == 0 && x.t == 0 {
-        Some(Entry::Node(Node::Arm))
-    } else {
-        None
-    }
+    listed(
+        x.q == 0 && x.r == 0 && x.s == 0 && x.t == 0,
+        Entry::Node(Node::Arm),
+    )
 }
 
 /// A Scope with p 2 or a PrunedScope with p 3, r its Scope.
-fn opened_entry(x: Record) -> Option<Entry>
-    ensures { result ≡ opened_entry x }
+fn opened_entry(x: Record) -> Result<Entry, Refusal>
+    ensures { result ≡ ok_or (opened_entry x) Field }
 {
-    if x.p <= 3 && x.q == 0 && x.s == 0 && x.t == 0 {
-        let node = if x.p == 2 {
-            Node::Scope { scope: x.r }
-        } else {
-            Node::Pruned { scope: x.r }
-        };
-        Some(Entry::Node(node))
+    let scope = ScopeId::from(x.r);
+    let node = if x.p == 2 {
+        Node::Scope { scope }
     } else {
-        None
-    }
+        Node::Pruned { scope }
+    };
+    listed(
+        x.p <= 3 && x.q == 0 && x.s == 0 && x.t == 0,
+        Entry::Node(node),
+    )
 }
 
 /// What Open makes, by p.
-fn open_entry(x: Record) -> Option<Entry>
-    ensures { result ≡ open_entry x }
+fn open_entry(x: Record) -> Result<Entry, Refusal>
+    ensures { result ≡ ok_or (open_entry x) Field }
 {
     match x.p {
         0 => terminal_entry(x),
@@ -307,23 +338,22 @@ fn open_entry(x: Record) -> Option<Entry>
 }
 
 /// A record with no field.
-fn plain_entry(x: Record, entry: Entry) -> Option<Entry>
-    ensures { result ≡ plain_entry x entry }
+fn plain_entry(x: Record, entry: Entry) -> Result<Entry, Refusal>
+    ensures { result ≡ ok_or (plain_entry x entry) Field }
 {
-    if x.p == 0 && x.q == 0 && x.r == 0 && x.s == 0 && x.t == 0 {
-        Some(entry)
-    } else {
-        None
-    }
+    let bare = Record {
+        tag: x.tag,
+        ..Record::default()
+    };
+    listed(x == bare, entry)
 }
 
 /// A shape of the host's own, not 0.
-fn shape_entry(x: Record) -> Option<Entry>
-    ensures { result ≡ shape_entry x }
+fn shape_entry(x: Record) -> Result<Entry, Refusal>
+    ensures { result ≡ ok_or (shape_entry x) Field }
 {
-    if x.r > 0 && x.p == 0 && x.q == 0 && x.s == 0 && x.t == 0 {
-        Some(Entry::Put(Put::Shape(ShapeRow { shape: x.r })))
-    } else {
-        None
-    }
+    listed(
+        x.r > 0 && names_r_alone(x),
+        Entry::Put(Put::Shape(ShapeRow { shape: x.r })),
+    )
 }

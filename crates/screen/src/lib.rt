@@ -4,6 +4,8 @@
 
 mod answer;
 mod entry;
+mod id;
+mod kinds;
 mod laws;
 mod node;
 mod rows;
@@ -12,6 +14,11 @@ mod value;
 
 pub use answer::{Answer, Line, Refusal};
 pub use entry::{Entry, Part, Put};
+pub use id::{
+    Id, IdentifierId, IdentifierTable, NodeId, NodeTable, ReadId, ReadTable, ScopeId, ScopeTable,
+    TypeId, TypeTable, ValueId, ValueTable,
+};
+pub use kinds::{PathKind, TerminalKind, TypeKind};
 pub use laws::{
     always_formed_stands, counts_stand, flattened_stand, formed_stands, log_stands,
     merge_formed_stands, merges_stand, opens_stand, reading_stands, run_samples_stand, runs_stand,

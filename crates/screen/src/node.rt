@@ -3,67 +3,56 @@
 ghost use Rattle.std.specs.Prelude.{◌≡◌};
 ghost use Rattle.screen.specs.Forest.{is_add, is_arm, can_hold};
 
+use crate::id::{IdentifierId, ScopeId, ValueId};
+use crate::kinds::TerminalKind;
+
 /// A node, as Add or Open made it, or the body.
-#[derive(Clone, Copy)]
+#[derive(Clone, Copy, Debug, PartialEq, Eq)]
 pub enum Node {
     /// Node 0, which is there from the start.
     Body,
     /// An instruction.
     Add {
         order: u32,
-        value: u32,
-        target: Option<u32>,
+        value: ValueId,
+        target: Option<IdentifierId>,
     },
-    /// A terminal: 0 Break to 12 Try.
+    /// A terminal.
     Terminal {
-        kind: u16,
+        kind: TerminalKind,
         order: u32,
-        value: Option<u32>,
+        value: Option<ValueId>,
     },
     /// One of a terminal's blocks.
     Arm,
     /// A reactive Scope.
     Scope {
-        scope: u32,
+        scope: ScopeId,
     },
     /// A PrunedScope, which only names a Scope.
     Pruned {
-        scope: u32,
+        scope: ScopeId,
     },
 }
 
 impl Node {
     /// Whether Add made it, so that it is closed at once and holds nothing.
-    pub fn is_add(self) -> bool
-        ensures { result ≡ is_add self }
+    pub fn is_add(&self) -> bool
+        ensures { result ≡ is_add self.now }
     {
-        match self {
-            Node::Add { .. } => true,
-            Node::Body
-            | Node::Terminal { .. }
-            | Node::Arm
-            | Node::Scope { .. }
-            | Node::Pruned { .. } => false,
-        }
+        matches!(self, Node::Add { .. })
     }
 
     /// Whether it is a terminal's block.
-    fn is_arm(self) -> bool
-        ensures { result ≡ is_arm self }
+    fn is_arm(&self) -> bool
+        ensures { result ≡ is_arm self.now }
     {
-        match self {
-            Node::Arm => true,
-            Node::Body
-            | Node::Add { .. }
-            | Node::Terminal { .. }
-            | Node::Scope { .. }
-            | Node::Pruned { .. } => false,
-        }
+        matches!(self, Node::Arm)
     }
 
     /// Whether it can hold this child: a terminal holds arms, an instruction nothing, and the others all but arms.
-    pub fn can_hold(self, child: Node) -> bool
-        ensures { result ≡ can_hold self child }
+    pub fn can_hold(&self, child: &Node) -> bool
+        ensures { result ≡ can_hold self.now child.now }
     {
         match self {
             Node::Add { .. } => false,

@@ -1,4 +1,5 @@
-//! The rows that never change once they are put. Each has the fields of its record, as plain numbers: a host may hand over any bits.
+//! The rows that never change once they are put. Each has the fields of its record, as plain numbers of fixed width, for a row's number and a kind too:
+//! their layout is what a host lends, and it may hand over any bits.
 
 ghost use Rattle.std.specs.Prelude.{◌≡◌};
 ghost use Rattle.block.specs.declared.record.Record.{Record as Fields};
@@ -6,25 +7,25 @@ ghost use Rattle.screen.specs.Records.{type_record, identifier_record, path_reco
 
 use block::Record;
 
-/// None, where a field may name a row or not.
+/// None, where a field of a record or of a lent row may name a row or not; `optional` makes an `Option` of such a field.
 pub const NONE: u32 = 4294967295;
 
 /// A type: 0 Primitive to 7 ObjectMethod, and its shape (0 none, 1 to 4 built in, above that the host's).
-#[derive(Clone, Copy)]
+#[derive(Clone, Copy, Debug, Default, PartialEq, Eq)]
 pub struct TypeRow {
     pub shape: u32,
     pub kind: u8,
 }
 
 /// An identifier: its declaration and its type's row.
-#[derive(Clone, Copy)]
+#[derive(Clone, Copy, Debug, Default, PartialEq, Eq)]
 pub struct IdentifierRow {
     pub declaration: u32,
     pub typ: u32,
 }
 
 /// An entry of a path: 0 a name or 1 a number, the low and the high half of it, and 1 where it is optional.
-#[derive(Clone, Copy)]
+#[derive(Clone, Copy, Debug, Default, PartialEq, Eq)]
 pub struct PathRow {
     pub low: u32,
     pub high: u32,
@@ -33,7 +34,7 @@ pub struct PathRow {
 }
 
 /// A dependency: its identifier, and `length` path entries from `first` on.
-#[derive(Clone, Copy)]
+#[derive(Clone, Copy, Debug, Default, PartialEq, Eq)]
 pub struct DependencyRow {
     pub identifier: u32,
     pub first: u32,
@@ -41,13 +42,13 @@ pub struct DependencyRow {
 }
 
 /// A read of an identifier.
-#[derive(Clone, Copy)]
+#[derive(Clone, Copy, Debug, Default, PartialEq, Eq)]
 pub struct ReadRow {
     pub identifier: u32,
 }
 
 /// A value, with the fields of its record; `Value` says what they are at each kind.
-#[derive(Clone, Copy)]
+#[derive(Clone, Copy, Debug, Default, PartialEq, Eq)]
 pub struct ValueRow {
     pub r: u32,
     pub s: u32,
@@ -57,16 +58,17 @@ pub struct ValueRow {
 }
 
 /// A shape of the host's own.
-#[derive(Clone, Copy)]
+#[derive(Clone, Copy, Debug, Default, PartialEq, Eq)]
 pub struct ShapeRow {
     pub shape: u32,
 }
 
-/// A row that a record put: its fields must keep that record's list.
+/// A row that a record put: its fields must keep that record's list. The rows differ in nothing but the fields that they keep of it.
 pub trait Row {
     /// The record that would put it as it stands.
     ghost made: { Self → Fields };
 
+    /// That record.
     fn record(&self) -> Record
         ensures { result ≡ made self.now };
 }
@@ -78,10 +80,8 @@ impl Row for TypeRow {
         Record {
             tag: 1,
             p: self.kind,
-            q: 0,
             r: self.shape,
-            s: 0,
-            t: 0,
+            ..Record::default()
         }
     }
 }
@@ -92,11 +92,9 @@ impl Row for IdentifierRow {
     fn record(&self) -> Record {
         Record {
             tag: 2,
-            p: 0,
-            q: 0,
             r: self.declaration,
             s: self.typ,
-            t: 0,
+            ..Record::default()
         }
     }
 }
@@ -111,7 +109,7 @@ impl Row for PathRow {
             q: self.kind,
             r: self.low,
             s: self.high,
-            t: 0,
+            ..Record::default()
         }
     }
 }
@@ -122,11 +120,10 @@ impl Row for DependencyRow {
     fn record(&self) -> Record {
         Record {
             tag: 5,
-            p: 0,
             q: self.length,
             r: self.identifier,
             s: self.first,
-            t: 0,
+            ..Record::default()
         }
     }
 }
@@ -137,11 +134,8 @@ impl Row for ReadRow {
     fn record(&self) -> Record {
         Record {
             tag: 8,
-            p: 0,
-            q: 0,
             r: self.identifier,
-            s: 0,
-            t: 0,
+            ..Record::default()
         }
     }
 }
@@ -167,11 +161,8 @@ impl Row for ShapeRow {
     fn record(&self) -> Record {
         Record {
             tag: 15,
-            p: 0,
-            q: 0,
             r: self.shape,
-            s: 0,
-            t: 0,
+            ..Record::default()
         }
     }
 }

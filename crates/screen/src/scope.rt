@@ -3,24 +3,24 @@
 ghost use Rattle.std.specs.Prelude.{◌≡◌};
 ghost use Rattle.screen.specs.Statuses.{status_of, is_unused};
 
-/// How a Scope stands.
-#[derive(Clone, Copy)]
+/// How a Scope stands, with the number that its lent row keeps.
+#[derive(Clone, Copy, Debug, PartialEq, Eq)]
 pub enum Status {
     /// No node opened it yet.
-    Unused,
+    Unused = 0,
     /// A node of the tree opened it.
-    Standing,
+    Standing = 1,
     /// A Merge joined it to the Scope before it.
-    Joined,
+    Joined = 2,
     /// A Merge put its content in its place.
-    Flattened,
+    Flattened = 3,
 }
 
-impl Status {
+impl From<u8> for Status {
+    ghost from_gives = { λ n status. status ≡ status_of n };
+
     /// The status of a number 0 to 3.
-    pub fn of(number: u8) -> Status
-        ensures { result ≡ status_of number }
-    {
+    fn from(number: u8) -> Status {
         match number {
             0 => Status::Unused,
             1 => Status::Standing,
@@ -28,14 +28,13 @@ impl Status {
             _ => Status::Flattened,
         }
     }
+}
 
+impl Status {
     /// Whether no node opened it yet.
     pub fn is_unused(self) -> bool
         ensures { result ≡ is_unused self }
     {
-        match self {
-            Status::Unused => true,
-            Status::Standing | Status::Joined | Status::Flattened => false,
-        }
+        matches!(self, Status::Unused)
     }
 }

@@ -1,19 +1,20 @@
 //! What a value is, read off the fields of its row.
 
 ghost use Rattle.std.specs.Prelude.{◌≡◌};
-ghost use Rattle.screen.specs.Values.{optional, value_by, value_of, children_of};
+ghost use Rattle.screen.specs.Values.{optional, value_of, children_of};
 
+use crate::id::{IdentifierId, ReadId, ValueId};
 use crate::rows::{NONE, ValueRow};
 
-/// The reads of an instruction: `count` of them from read `first` on.
-#[derive(Clone, Copy)]
+/// The reads of an instruction: `count` of them from read `first` on. No slice, since the table of reads is the sheet's.
+#[derive(Clone, Copy, Debug, PartialEq, Eq)]
 pub struct Reads {
-    pub first: u32,
+    pub first: ReadId,
     pub count: u16,
 }
 
 /// A value by its kind.
-#[derive(Clone, Copy)]
+#[derive(Clone, Copy, Debug, PartialEq, Eq)]
 pub enum Value {
     /// An instruction that is none of those below.
     Other(Reads),
@@ -23,35 +24,35 @@ pub enum Value {
     /// A StoreLocal of kind Const.
     StoreConst {
         reads: Reads,
-        stored: u32,
+        stored: IdentifierId,
     },
     /// Another StoreLocal.
     StoreLocal {
         reads: Reads,
-        stored: u32,
+        stored: IdentifierId,
     },
     Logical {
-        left: u32,
-        right: u32,
+        left: ValueId,
+        right: ValueId,
     },
     Conditional {
-        test: u32,
-        consequent: u32,
-        alternate: u32,
+        test: ValueId,
+        consequent: ValueId,
+        alternate: ValueId,
     },
     Sequence {
         order: u32,
-        value: u32,
-        first: Option<u32>,
+        value: ValueId,
+        first: Option<ValueId>,
     },
     Optional {
-        value: u32,
+        value: ValueId,
     },
     /// An instruction inside a sequence.
     Inner {
         order: u32,
-        value: u32,
-        next: Option<u32>,
+        value: ValueId,
+        next: Option<ValueId>,
     },
 }
 
@@ -62,20 +63,14 @@ pub fn optional(field: u32) -> Option<u32>
     if field == NONE { None } else { Some(field) }
 }
 
-impl Value {
-    /// What a row's fields say, whose kind is 0 to 16.
-    pub fn of(row: ValueRow) -> Value
-        ensures { result ≡ value_of row }
-    {
-        Value::by_kind(row)
-    }
+impl From<ValueRow> for Value {
+    ghost from_gives = { λ row value. value ≡ value_of row };
 
-    /// The same, by its kind.
-    fn by_kind(row: ValueRow) -> Value
-        ensures { result ≡ value_by row }
-    {
+    /// What a row's fields say, whose kind is 0 to 16.
+    #[tactic(auto, unfolding(crate::specs::Values::value_of))]
+    fn from(row: ValueRow) -> Value {
         let reads = Reads {
-            first: row.r,
+            first: ReadId::from(row.r),
             count: row.q,
         };
         match row.kind {
@@ -83,38 +78,42 @@ impl Value {
             5 => Value::LoadLocal(reads),
             10 => Value::StoreConst {
                 reads,
-                stored: row.s,
+                stored: IdentifierId::from(row.s),
             },
             11 => Value::StoreLocal {
                 reads,
-                stored: row.s,
+                stored: IdentifierId::from(row.s),
             },
             12 => Value::Logical {
-                left: row.r,
-                right: row.s,
+                left: ValueId::from(row.r),
+                right: ValueId::from(row.s),
             },
             13 => Value::Conditional {
-                test: row.r,
-                consequent: row.s,
-                alternate: row.t,
+                test: ValueId::from(row.r),
+                consequent: ValueId::from(row.s),
+                alternate: ValueId::from(row.t),
             },
             14 => Value::Sequence {
                 order: row.r,
-                value: row.s,
-                first: optional(row.t),
+                value: ValueId::from(row.s),
+                first: optional(row.t).map(ValueId::from),
             },
-            15 => Value::Optional { value: row.r },
+            15 => Value::Optional {
+                value: ValueId::from(row.r),
+            },
             16 => Value::Inner {
                 order: row.r,
-                value: row.s,
-                next: optional(row.t),
+                value: ValueId::from(row.s),
+                next: optional(row.t).map(ValueId::from),
             },
             _ => Value::Simple(reads),
         }
     }
+}
 
+impl Value {
     /// The values that it names: up to three that it computes with, and last the inner instruction.
-    pub fn children(self) -> [Option<u32>; 4]
+    pub fn children(self) -> [Option<ValueId>; 4]
         ensures { result ≡ children_of self }
     {
         match self {

@@ -50,16 +50,6 @@ module _ (rows : List NodeRow) (n p : ℕ) (made : Record) (room : n < length ro
       let ne : p ≢ n = λ e. omega arith in
       rw (put, get_or-set_other rows n p (fresh made p) no_node ne, ← get_or-take n rows p no_node within) below
 
-  wide_length : length wide ≡ length rows
-  wide_length = ap length put ∙ length-set rows n (fresh made p)
-
-  -- p and its last child have rows
-  pub holder_within : p < length wide
-  holder_within = omega (arith, wide_length)
-
-  pub holder_last : Below (length wide) (row wide p).last
-  holder_last ne = omega (arith, wide_length, holder_below ne)
-
   -- the rows that are put, the others, and how many there are
   pub append_rows : take (n + 1) (attached wide p n n) ≡ appended (take n rows) p made
   append_rows =
@@ -73,6 +63,3 @@ module _ (rows : List NodeRow) (n p : ℕ) (made : Record) (room : n < length ro
       attached_drop (n + 1) wide p n n (omega arith) (λ ne. omega (arith, holder_below ne))
       ∙ ap (λ t. drop (n + 1) t) put
       ∙ drop-set-lt (n + 1) rows n (fresh made p) (omega arith)
-
-  pub append_long : length (attached wide p n n) ≡ length rows
-  append_long = attached_length wide p n n ∙ wide_length

@@ -1,6 +1,6 @@
 -- The steps along a list of declarations, and where it ends.
-use Rattle.std.proofs.Common.{◌≡◌, ℕ, zero, suc, ◌+◌, ◌-◌, ◌<◌, ◌≤◌, cond, ltb, List, length, ap, ◌∙◌, arith}
-use Rattle.std.proofs.lemmas.Bool.{cond-true, cond-false, cond_both, lt-ltb, le-ltb, ltb-true}
+use Rattle.std.proofs.Common.{◌≡◌, ℕ, zero, suc, ◌+◌, ◌-◌, ◌<◌, cond, ltb, List, length, ap, ◌∙◌, arith}
+use Rattle.std.proofs.lemmas.Bool.{cond-true, cond_both, lt-ltb, ltb-true}
 use Rattle.sheet.specs.declared.rows.DeclarationRow.{DeclarationRow}
 use Rattle.sheet.specs.Chains.{next_declaration}
 use Rattle.sheet.specs.Ends.{end_from}
@@ -10,9 +10,6 @@ pub end_step : (n i : ℕ) (rows : List DeclarationRow) (a : ℕ) → i < n → 
 end_step n i rows a h =
     let e : n - i ≡ suc (n - (i + 1)) = omega arith in
     ap (λ m. end_from m rows a) e
-
-pub end_here : (n i : ℕ) (rows : List DeclarationRow) (a : ℕ) → i < n → length rows ≤ next_declaration rows a → end_from (n - i) rows a ≡ a
-end_here n i rows a h l = end_step n i rows a h ∙ cond-false (ltb (next_declaration rows a) (length rows)) _ a (le-ltb (next_declaration rows a) (length rows) l)
 
 pub end_next : (n i : ℕ) (rows : List DeclarationRow) (a : ℕ) → i < n → next_declaration rows a < length rows → end_from (n - i) rows a ≡ end_from (n - (i + 1)) rows (next_declaration rows a)
 end_next n i rows a h l = end_step n i rows a h ∙ cond-true (ltb (next_declaration rows a) (length rows)) (end_from (n - (i + 1)) rows (next_declaration rows a)) a (lt-ltb (next_declaration rows a) (length rows) l)

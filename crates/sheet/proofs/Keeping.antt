@@ -22,9 +22,9 @@ use Rattle.sheet.proofs.Ending.{end_low}
 
 -- what each kind of entry leaves
 put_rest : (m : Memory) (p : Put) → RestKept m (put_in m p)
-put_rest m (put.Type t) = search (rules, same_rest, pushed_rest)
+put_rest m (put.Type k s) = search (rules, same_rest, pushed_rest)
 put_rest m (put.Identifier i) = search (rules, same_rest, pushed_rest)
-put_rest m (put.Path p) = search (rules, same_rest, pushed_rest)
+put_rest m (put.Path a z k o) = search (rules, same_rest, pushed_rest)
 put_rest m (put.Scope a z) = search (rules, same_rest, pushed_rest)
 put_rest m (put.Read r) = search (rules, same_rest, pushed_rest)
 put_rest m (put.Shape s) = search (rules, same_rest, pushed_rest)

@@ -1,3 +1,5 @@
+mod Highest
+mod Naming
 pub mod Frames
 pub mod Storing
 pub mod Appending
@@ -31,3 +33,5 @@ pub mod Recording
 pub mod Writing
 pub mod Taking
 pub mod Starting
+pub mod Passing
+pub mod Rising

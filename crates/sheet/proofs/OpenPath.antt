@@ -39,9 +39,6 @@ opens_less (suc d) (tree m y cs bare) h =
 opens_less (suc d) (tree m y cs (tree k z ds ts)) h = opens_less (suc d) (tree k z ds ts) h
 
 module _ (rows : List NodeRow) (few : length rows ≤ 1024) where
-  pub rises_first : (node : ℕ) → Rises rows node 0 node
-  rises_first node g x h l = (refl, refl)
-
   pub rises_more : (node count at : ℕ) → Rung rows at → Rises rows node count at → Rises rows node (count + 1) (row rows at).parent
   rises_more node count at r up g x h l =
       subst (λ (d : ℕ). (opens d g ≡ true) × ((innermost (spot p x) d g).number ≡ node)) (sym (add-one count)) (go g h (sym r.last_is ∙ l))
@@ -59,15 +56,6 @@ module _ (rows : List NodeRow) (few : length rows ≤ 1024) where
             subst (λ (i : ℕ). (innermost (spot i y) count cs).number ≡ node) e u.1,
           )
       go (tree m y cs (tree k z ds ts)) h e = go (tree k z ds ts) h.2 e
-
-  pub rises_all : (node count : ℕ) → count ≤ 63 → Rises rows node count 0 → (f : Forest) → Links rows 4294967295 (body f)
-      → (o : ℕ) × (opens o f ≡ true) × (o ≤ 63) × ((innermost root o f).number ≡ node)
-  rises_all node count l up f h =
-      let u = up f root.node h.1 h.0.last_is in
-      (count, u.0, l, u.1)
-
-  pub climbs_first : (node : ℕ) → Climbs rows node 0 node
-  climbs_first node f o h p l e = record { left = o; sum = omega arith; opened = p; here = e }
 
   climb : (s : Spot) (d : ℕ) (g : Forest) → s.number < length rows → Links rows s.number g → (row rows s.number).last ≡ last_of g → opens (suc d) g ≡ true
       → Rung rows (innermost s (suc d) g).number × ((row rows (innermost s (suc d) g).number).parent ≡ (innermost s d g).number)

@@ -1,10 +1,10 @@
 -- The marks of the Scopes that nodes opened, one node further on.
-use Rattle.std.proofs.Common.{◌≡◌, ℕ, ◌+◌, ◌<◌, ◌≤◌, Bool, true, false, cond, not, ◌≢◌, List, length, get_or, set, replicate, sym, refl, ap, ◌∙◌, subst, inl, inr, arith}
+use Rattle.std.proofs.Common.{◌≡◌, ℕ, ◌+◌, ◌<◌, ◌≤◌, Bool, true, false, cond, not, List, length, get_or, replicate, sym, refl, ap, ◌∙◌, subst, arith}
 use borrow.Author.Tests.{clash}
-use Rattle.std.proofs.lemmas.List.{length-map, get_or-set_same, get_or-set_other, get_or-replicate}
-use Rattle.std.proofs.lemmas.Bool.{cases_eq, not-false}
+use Rattle.std.proofs.lemmas.List.{length-map, get_or-replicate}
+use Rattle.std.proofs.lemmas.Bool.{not-false}
 use Rattle.screen.specs.declared.node.Node.{Node}
-use Rattle.screen.specs.declared.node.Node.TheVariants.{Body, Add, Terminal, Arm, Scope, Pruned}
+use Rattle.screen.specs.declared.node.Node.TheVariants.{Scope}
 use Rattle.screen.specs.declared.scope.Status.{Status}
 use Rattle.screen.specs.declared.scope.Status.TheVariants.{Unused, Standing, Joined, Flattened}
 use Rattle.screen.specs.Forest.{same}
@@ -14,8 +14,8 @@ use Rattle.sheet.specs.declared.rows.NodeRow.{NodeRow}
 use Rattle.sheet.specs.declared.rows.ScopeRow.{ScopeRow}
 use Rattle.sheet.specs.Planted.{statuses_of}
 use Rattle.sheet.specs.Listed.{ScopeBelow}
-use Rattle.sheet.specs.Fitting.{ScopesNamed, node_at, status_at, openers, one, OpenedOnce, Marked, marked_by, may_open}
-use Rattle.screen.proofs.Counts.{same_self, same_other}
+use Rattle.sheet.specs.Fitting.{ScopesNamed, node_at, status_at, openers, one, OpenedOnce, Marked, may_open}
+use Rattle.screen.proofs.Counts.{same_self}
 use Rattle.sheet.proofs.Sums.{sum_more, sum_mono}
 
 pub as_long : (scopes : List ScopeRow) → length (statuses_of scopes) ≡ length scopes
@@ -27,18 +27,6 @@ named_there rows scopes i j h l e =
     let there : j < length scopes = subst (λ (x : Node). ScopeBelow (length scopes) x) e (h i l) in
     omega (arith, there, as_long scopes)
 
--- a Scope that was opened gets its mark
-marked_here : (s m g : Bool) (marks : List Bool) (x j : ℕ) → cond s (not m) g ≡ true → g ≡ false → x ≡ cond s (one m) 0 → get_or (set marks j true) j false ≡ true
-    → 1 + x ≡ cond s (one (get_or (cond s (set marks j true) marks) j false)) 0
-marked_here true true g marks x j a b c d = absurd (clash a)
-marked_here true false g marks x j a b c d = omega (arith, ap one d)
-marked_here false m g marks x j a b c d = absurd (clash (sym b ∙ a))
-
--- and the others keep theirs
-marked_there : (s : Bool) (marks : List Bool) (j k : ℕ) → k ≢ j → get_or (cond s (set marks j true) marks) k false ≡ get_or marks k false
-marked_there true marks j k ne = get_or-set_other marks j k true false ne
-marked_there false marks j k ne = refl
-
 -- before the first node there is no mark
 pub marked_first : (rows : List NodeRow) (ss : List Status) (n : ℕ) → length ss ≤ n → Marked rows ss 0 (replicate n false)
 marked_first rows ss n few j l g =
@@ -48,43 +36,11 @@ marked_first rows ss n few j l g =
     unmarked true m e = sym (ap one e)
     unmarked false m e = refl
 
--- a node that is no Scope opened none
-pub opens_none : (x : Node) → ((j : ℕ) → x ≡ Scope j → ⊥) → (j : ℕ) → opening j x ≡ 0
-opens_none Body h j = refl
-opens_none (Add o v t) h j = refl
-opens_none (Terminal k o v) h j = refl
-opens_none Arm h j = refl
-opens_none (Scope i) h j = absurd (h i refl)
-opens_none (Pruned i) h j = refl
-
 module _ (rows : List NodeRow) (ss : List Status) (marks : List Bool) (i : ℕ) (h : Marked rows ss i marks) where
   opened_more : (j k : ℕ) → node_at rows i ≡ Scope j → openers rows (i + 1) k ≡ same k j + openers rows i k
   opened_more j k is =
       let o = ap (λ x. opening k x) is in
       omega (arith, o, sum_more i (λ n. opening k (node_at rows n)))
-
-  -- past a node that opened no Scope
-  pub marked_past : ((j : ℕ) → opening j (node_at rows i) ≡ 0) → Marked rows ss (i + 1) marks
-  marked_past z j l g = omega (arith, z j, h j l g, sum_more i (λ n. opening j (node_at rows n)))
-
-  -- past one that opened Scope j
-  pub marked_more : (j : ℕ) → node_at rows i ≡ Scope j → j < length ss → length ss ≤ length marks → may_open ss j marks ≡ true → Marked rows ss (i + 1) (marked_by ss j marks)
-  marked_more j is l few may k m g = elim (cases_eq j k) [ inl e ↦ here e | inr ne ↦ there ne ]
-    where
-      at_j : is_gone (status_at ss j) ≡ false → openers rows (i + 1) j ≡ cond (is_standing (status_at ss j)) (one (get_or (marked_by ss j marks) j false)) 0
-      at_j g' =
-          let core = marked_here (is_standing (status_at ss j)) (get_or marks j false) (is_gone (status_at ss j)) marks (openers rows i j) j may g' (h j l g')
-          (get_or-set_same marks j true false (omega arith)) in
-          omega (arith, core, opened_more j j is, same_self j)
-
-      here : j ≡ k → openers rows (i + 1) k ≡ cond (is_standing (status_at ss k)) (one (get_or (marked_by ss j marks) k false)) 0
-      here e =
-          subst (λ (n : ℕ). is_gone (status_at ss n) ≡ false → openers rows (i + 1) n ≡ cond (is_standing (status_at ss n)) (one (get_or (marked_by ss j marks) n false)) 0) e at_j g
-
-      there : j ≢ k → openers rows (i + 1) k ≡ cond (is_standing (status_at ss k)) (one (get_or (marked_by ss j marks) k false)) 0
-      there ne =
-          let keeps = ap (λ b. cond (is_standing (status_at ss k)) (one b) 0) (marked_there (is_standing (status_at ss j)) marks j k (λ e. ne (sym e))) in
-          omega (arith, keeps, h k m g, opened_more j k is, same_other k j (λ e. ne (sym e)))
 
   -- a node that may not have opened its Scope is one too many
   pub marked_not : (j : ℕ) → i < length rows → node_at rows i ≡ Scope j → j < length ss → may_open ss j marks ≡ false → OpenedOnce rows ss → ⊥

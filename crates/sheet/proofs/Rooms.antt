@@ -60,9 +60,9 @@ module _ (m : Memory) (σ : State) (h : Holds m σ) where
   module _ (long : Long m) where
     -- room for each kind of entry
     put_room : (p : Put) → put_full σ.rows (statuses σ.scopes) p ≡ false → PutRoom m p
-    put_room (put.Type t) f = room_from m.types 256 _ (sym (ap (λ w. length w.types) h.rows) ∙ items_many m.types h.counts.types) f long.types (omega arith)
+    put_room (put.Type k s) f = room_from m.types 256 _ (sym (ap (λ w. length w.types) h.rows) ∙ items_many m.types h.counts.types) f long.types (omega arith)
     put_room (put.Identifier i) f = room_from m.identifiers 1024 _ (sym (ap (λ w. length w.identifiers) h.rows) ∙ items_many m.identifiers h.counts.identifiers) f long.identifiers (omega arith)
-    put_room (put.Path p) f = room_from m.paths 1024 _ (sym (ap (λ w. length w.paths) h.rows) ∙ items_many m.paths h.counts.paths) f long.paths (omega arith)
+    put_room (put.Path a z k o) f = room_from m.paths 1024 _ (sym (ap (λ w. length w.paths) h.rows) ∙ items_many m.paths h.counts.paths) f long.paths (omega arith)
     put_room (put.Scope a z) f = room_from m.scopes 256 _ scopes_many f long.scopes (omega arith)
     put_room (put.Read r) f = room_from m.reads 1024 _ (sym (ap (λ w. length w.reads) h.rows) ∙ items_many m.reads h.counts.reads) f long.reads (omega arith)
     put_room (put.Shape s) f = room_from m.shapes 16 _ (sym (ap (λ w. length w.shapes) h.rows) ∙ items_many m.shapes h.counts.shapes) f long.shapes (omega arith)

@@ -15,7 +15,6 @@ use Rattle.screen.specs.declared.scope.Status.{Status}
 use Rattle.screen.proofs.Below.{namings_below}
 use Rattle.sheet.specs.declared.rows.NodeRow.{NodeRow}
 use Rattle.screen.specs.declared.node.Node.{Node}
-use Rattle.screen.specs.declared.node.Node.TheVariants.{Body}
 use Rattle.screen.specs.declared.rows.IdentifierRow.{IdentifierRow}
 use Rattle.screen.specs.declared.rows.ValueRow.{ValueRow}
 use Rattle.sheet.specs.Tables.{Memory, items}
@@ -33,7 +32,7 @@ use Rattle.sheet.proofs.Accepting.{statuses_are}
 use Rattle.sheet.proofs.Marking.{plain_fresh, fresh_plain}
 use Rattle.sheet.proofs.Examining.{unmarked_rows}
 use Rattle.sheet.proofs.Listing.{named_below}
-use Rattle.sheet.proofs.NodeRowing.{body_made, kept_some, kept_body, kept_rest}
+use Rattle.sheet.proofs.NodeRowing.{body_made, kept_rest}
 
 -- tables that are long enough and count no more than their limits
 pub within_long : (m : Memory) → Long m → Fitted m → Within m
@@ -207,12 +206,6 @@ module _ (m : Memory) (in' : Within m) where
   node_scopes r k h =
       subst (λ (n : ℕ). ScopeBelow n (node_at (items m.nodes) k)) (length-map (items m.scopes) (λ x. status_of x.status))
       (scopes_below (items m.identifiers) (items m.values) (statuses_of (items m.scopes)) (items m.nodes) (record { records = r.records; nodes = r.kept.nodes }) k h)
-
-  pub some_node : RowsSound m → 0 < length (items m.nodes)
-  some_node r = kept_some (items m.identifiers) (items m.values) (statuses_of (items m.scopes)) (items m.nodes) (record { records = r.records; nodes = r.kept.nodes })
-
-  pub body_node : RowsSound m → node_at (items m.nodes) 0 ≡ Body
-  body_node r = ap node_of (kept_body (items m.identifiers) (items m.values) (statuses_of (items m.scopes)) (items m.nodes) (record { records = r.records; nodes = r.kept.nodes })) ∙ body_made
 
 module _ (m : Memory) (σ : State) (h : Holds m σ) where
   pub holds_statuses : statuses_of (items m.scopes) ≡ statuses σ.scopes

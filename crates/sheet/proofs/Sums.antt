@@ -11,6 +11,11 @@ use Rattle.screen.proofs.Counts.{same_self, same_other}
 pub sum_more : (n : ℕ) (g : ℕ → ℕ) → sum_below (n + 1) g ≡ g n + sum_below n g
 sum_more n g = ap (λ m. sum_below m g) (add-one n)
 
+-- the first of them, and the rest
+pub sum_front : (n : ℕ) (g : ℕ → ℕ) → sum_below (suc n) g ≡ g 0 + sum_below n (λ k. g (suc k))
+sum_front zero g = refl
+sum_front (suc n) g = omega (arith, sum_front n g)
+
 pub sum_add : (n : ℕ) (g h : ℕ → ℕ) → sum_below n (λ k. g k + h k) ≡ sum_below n g + sum_below n h
 sum_add zero g h = refl
 sum_add (suc n) g h = omega (arith, sum_add n g h)

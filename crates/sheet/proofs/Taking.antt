@@ -1,15 +1,17 @@
 -- One record on tables that hold a sheet.
-use Rattle.std.proofs.Common.{◌≡◌, ℕ, ◌<◌, ◌≤◌, List, [], ◌∷◌, map, length, Some, None, Ok, sym, refl, ap, ◌∙◌, subst, arith}
+use Rattle.std.proofs.Common.{◌≡◌, ℕ, ◌<◌, ◌≤◌, List, [], ◌∷◌, ◌++◌, map, length, drop, Some, None, Option, Ok, Err, ok_or, sym, refl, ap, ◌∙◌, subst, arith}
 use Rattle.screen.specs.State.{State, Scope}
 use Rattle.screen.specs.Forest.{Forest, body, cnt}
 use Rattle.screen.specs.Standing.{openings}
 use Rattle.screen.specs.Lines.{lines_of}
 use Rattle.block.specs.declared.record.Record.{Record}
 use Rattle.screen.specs.Entries.{entry_of}
-use Rattle.screen.specs.Step.{Outcome, after, answer_to, asked, taking, step, listing}
+use Rattle.screen.specs.Step.{Outcome, after, answer_to, asked, refusing, taking, step, listing}
 use Rattle.screen.specs.declared.entry.Entry.{Entry}
 use Rattle.screen.specs.declared.entry.Entry.TheVariants as entry
-use Rattle.screen.specs.declared.answer.Answer.TheVariants.{Accepted}
+use Rattle.screen.specs.declared.answer.Answer.TheVariants.{Accepted, Listed}
+use Rattle.screen.specs.declared.answer.Refusal.{Refusal}
+use Rattle.screen.specs.declared.answer.Refusal.TheVariants as refusal
 use Rattle.screen.specs.Refused.{statuses, refused_of}
 use Rattle.sheet.specs.declared.rows.NodeRow.{NodeRow}
 use Rattle.sheet.specs.declared.rows.ScopeRow.{ScopeRow}
@@ -20,11 +22,16 @@ use Rattle.sheet.specs.Listed.{ends_of}
 use Rattle.sheet.specs.Chains.{ScopesHeld}
 use Rattle.sheet.specs.Holds.{Holds}
 use Rattle.sheet.specs.Kept.{Long, RestKept}
-use Rattle.sheet.specs.Takes.{Takes}
+use Rattle.sheet.specs.Takes.{Takes, with_lines}
 use Rattle.sheet.proofs.Planting.{planted_once}
 use Rattle.sheet.proofs.Listing.{named_by_rows}
 use Rattle.sheet.proofs.Storing.{items_many}
 use Rattle.sheet.proofs.Sounding.{holds_rows, holds_fitted, node_scopes}
+
+-- a record that asks for an entry, by what reading it answered
+pub entry_is : (o : Option Entry) (e : Entry) → Ok e ≡ ok_or o refusal.Field → o ≡ Some e
+entry_is None e h = cc
+entry_is (Some x) e h = cc
 
 -- where the Scopes end, by their rows
 pub ends_held : (S : List ScopeRow) (D : List DeclarationRow) (rs : List ScopeRow) (ss : List Scope) → ScopesHeld S D rs ss → ends_of rs ≡ map (λ k. k.end) ss
@@ -91,4 +98,28 @@ long_rest old new r l =
       values = omega (arith, r.values.length_is, l.values);
       shapes = omega (arith, r.shapes.length_is, l.shapes);
       nodes = omega (arith, r.nodes.length_is, l.nodes);
+    }
+
+-- a record that asks for nothing, or whose entry is refused
+pub step_unread : (σ : State) (x : Record) (r : Refusal) → Err r ≡ ok_or (entry_of x) refusal.Field → step σ x ≡ refusing σ r
+step_unread σ x r h = go (entry_of x) h
+  where
+    go : (o : Option Entry) → Err r ≡ ok_or o refusal.Field → asked σ o ≡ refusing σ r
+    go None e = cc
+    go (Some y) e = cc
+
+pub step_refused : (σ : State) (x : Record) (e : Entry) (r : Refusal) → entry_of x ≡ Some e → refused_of σ e ≡ Some r → step σ x ≡ refusing σ r
+step_refused σ x e r h t = ap (asked σ) h ∙ ap (taking σ e) t
+
+pub takes_refused : (σ : State) (x : Record) (m : Memory) (w : WorkMemory) (r : Refusal) → step σ x ≡ refusing σ r → Holds m σ → Takes σ x m w w (Err r)
+takes_refused σ x m w r s h = record { answer = sym (ap (λ (o : Outcome). o.answer) s); holds = subst (λ (o : Outcome). Holds m o.sheet) (sym s) h; lines = refl }
+
+-- a record that lists the tree
+pub takes_listed : (σ : State) (x : Record) (m : Memory) (w w' : WorkMemory) (n : ℕ) → entry_of x ≡ Some entry.List → refused_of σ entry.List ≡ None → Holds m σ
+    → (n ≡ length (listing σ)) × (w' ≡ with_lines w (listing σ ++ drop n w.lines)) → Takes σ x m w w' (Ok (Listed n))
+takes_listed σ x m w w' n h r k l =
+    record {
+      answer = ap (λ i. Ok (Listed i)) l.0 ∙ sym (ap (λ (o : Outcome). o.answer) (step_taken σ x entry.List h r));
+      holds = subst (λ (o : Outcome). Holds m o.sheet) (sym (step_taken σ x entry.List h r)) k;
+      lines = l.1;
     }

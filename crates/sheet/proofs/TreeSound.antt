@@ -1,5 +1,5 @@
 -- A linked tree of the right size in rows that are right one by one is planted, and of a planted tree the rows are right.
-use Rattle.std.proofs.Common.{◌≡◌, ℕ, ◌*◌, ◌<◌, ◌≤◌, Bool, true, false, cond, ◌&&◌, ◌≢◌, ◌⊎◌, List, length, get_or, sym, refl, ap, ◌∙◌, subst, inl, inr, one-mul, mul-zero, zero-mul, arith}
+use Rattle.std.proofs.Common.{◌≡◌, ℕ, ◌+◌, ◌*◌, ◌<◌, ◌≤◌, Bool, true, false, cond, not, ◌&&◌, eqb, ◌≢◌, ◌⊎◌, List, [], ◌∷◌, length, filter, get_or, sym, refl, ap, ◌∙◌, subst, inl, inr, one-mul, mul-zero, zero-mul, arith}
 use native.Mathlib.Decide.{dec_lt}
 use Rattle.std.proofs.lemmas.List.{get_or-map, length-map}
 use Rattle.std.proofs.lemmas.Bool.{and_from, and_parts, cases_eq}
@@ -19,7 +19,7 @@ use Rattle.sheet.specs.Fitting.{sum_below, node_at, status_at, Kept, expected, o
 use Rattle.screen.proofs.Counts.{same_self, same_other}
 use Rattle.sheet.proofs.Frames.{head_in, determined}
 use Rattle.sheet.proofs.Apart.{same_node, in_rows, distinct}
-use Rattle.sheet.proofs.Sums.{sum_like, sum_zero, sum_tight, sum_size, sum_total, total_of}
+use Rattle.sheet.proofs.Sums.{sum_front, sum_like, sum_zero, sum_tight, sum_size, sum_total, total_of}
 
 -- a node should be in the tree once or never
 reached_bit : (ss : List Status) (x : Node) → (reached ss x ≡ 0) ⊎ (reached ss x ≡ 1)
@@ -33,6 +33,15 @@ reached_bit ss (Scope j) = go (is_gone (status_at ss j))
     go true = inl refl
     go false = inr refl
 reached_bit ss (Pruned k) = inr refl
+
+-- how many nodes should be in the tree, as a filter counts them
+pub counted : (ss : List Status) (rows : List NodeRow) → length (filter (λ r. not (eqb (reached ss (node_of r.made)) 0)) rows) ≡ expected rows ss (length rows)
+counted ss [] = refl
+counted ss (r ∷ rs) = omega (arith, go (reached ss (node_of r.made)) (reached_bit ss (node_of r.made)), counted ss rs, sum_front (length rs) (λ k. reached ss (node_at (r ∷ rs) k)))
+  where
+    go : (n : ℕ) → (n ≡ 0) ⊎ (n ≡ 1) → length (cond (not (eqb n 0)) (r ∷ filter (λ q. not (eqb (reached ss (node_of q.made)) 0)) rs) (filter (λ q. not (eqb (reached ss (node_of q.made)) 0)) rs)) ≡ n + length (filter (λ q. not (eqb (reached ss (node_of q.made)) 0)) rs)
+    go n (inl e) = rw e (omega arith)
+    go n (inr e) = rw e (omega arith)
 
 nothing : (b : Bool) → ◌≡◌ {A = ℕ} 0 (cond b 0 0)
 nothing true = refl

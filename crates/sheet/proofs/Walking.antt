@@ -4,6 +4,7 @@ use Rattle.std.proofs.lemmas.Bool.{ltb-true, lt-ltb, not-true, not_from_false, a
 use Rattle.sheet.specs.Chains.{Chain}
 use Rattle.screen.specs.Lists.{gathered}
 use Rattle.sheet.specs.declared.rows.ScopeRow.{ScopeRow}
+use Rattle.sheet.proofs.Fresh.{fresh_append, marked_append}
 use Rattle.sheet.specs.Walks.{fresh, marked, Walked, Chains, WalkedAll}
 
 -- how many rows are unmarked
@@ -34,9 +35,6 @@ pub record Resumes (next : ℕ → ℕ) (n a : ℕ) (marks : List Bool) (b : ℕ
   pub whole : (left : List Bool) → Walked next n b marks' left → Walked next n a marks left
   pub rest : (left : List Bool) → Walked next n a marks left → Walked next n b marks' left
 
-pub walked_none : (next : ℕ → ℕ) (n a : ℕ) (marks : List Bool) → a ≡ 4294967295 → Walked next n a marks marks
-walked_none next n a marks e = record { passed = []; chain = e; unmarked = refl; left_is = refl }
-
 pub walked_on : (next : ℕ → ℕ) (n a b : ℕ) (marks left : List Bool) → a < n → get_or marks a false ≡ false → b ≡ next a → Walked next n b (set marks a true) left → Walked next n a marks left
 walked_on next n a b marks left h e l w =
     record { passed = a ∷ w.passed; chain = (refl, subst (λ (x : ℕ). Chain next x w.passed) l w.chain); unmarked = fresh_cons n marks a w.passed h e w.unmarked; left_is = w.left_is }
@@ -62,22 +60,8 @@ walked_back next n a marks left ne w = go w.passed w.chain w.unmarked w.left_is
 
 -- The lists of several rows, one walked after the other.
 
-pub fresh_append : (n : ℕ) (marks : List Bool) (xs ys : List ℕ) → fresh n marks xs ≡ true → fresh n (marked marks xs) ys ≡ true → fresh n marks (xs ++ ys) ≡ true
-fresh_append n marks [] ys p q = q
-fresh_append n marks (x ∷ xs) ys p q =
-    let h = fresh_parts n marks x xs p in
-    fresh_cons n marks x (xs ++ ys) h.0 h.1 (fresh_append n (set marks x true) xs ys h.2 q)
-
-pub fresh_split : (n : ℕ) (marks : List Bool) (xs ys : List ℕ) → fresh n marks (xs ++ ys) ≡ true → (fresh n marks xs ≡ true) × (fresh n (marked marks xs) ys ≡ true)
-fresh_split n marks [] ys p = (refl, p)
-fresh_split n marks (x ∷ xs) ys p =
-    let h = fresh_parts n marks x (xs ++ ys) p in
-    let r = fresh_split n (set marks x true) xs ys h.2 in
-    (fresh_cons n marks x xs h.0 h.1 r.0, r.1)
-
-pub marked_append : (marks : List Bool) (xs ys : List ℕ) → marked marks (xs ++ ys) ≡ marked (marked marks xs) ys
-marked_append marks [] ys = refl
-marked_append marks (x ∷ xs) ys = marked_append (set marks x true) xs ys
+fresh_split : (n : ℕ) (marks : List Bool) (xs ys : List ℕ) → fresh n marks (xs ++ ys) ≡ true → (fresh n marks xs ≡ true) × (fresh n (marked marks xs) ys ≡ true)
+fresh_split n marks xs ys p = and_parts (fresh n marks xs) (fresh n (marked marks xs) ys) (sym (fresh_append n marks xs ys) ∙ p)
 
 -- the walks of the lists of these rows, and of those that are left after some, leave the same marks
 pub record ResumesAll (next : ℕ → ℕ) (first : ScopeRow → ℕ) (n : ℕ) (rs : List ScopeRow) (marks : List Bool) (rs' : List ScopeRow) (marks' : List Bool) : Type 0 where
@@ -85,9 +69,6 @@ pub record ResumesAll (next : ℕ → ℕ) (first : ScopeRow → ℕ) (n : ℕ) 
   pub rest : (left : List Bool) → WalkedAll next first n rs marks left → WalkedAll next first n rs' marks' left
 
 module _ (next : ℕ → ℕ) (first : ScopeRow → ℕ) (n : ℕ) where
-  pub all_none : (rs : List ScopeRow) (marks : List Bool) → rs ≡ [] → WalkedAll next first n rs marks marks
-  all_none rs marks e = record { passed = []; chains = subst (λ (x : List ScopeRow). Chains next first x []) (sym e) tt; unmarked = refl; left_is = refl }
-
   pub all_end : (rs : List ScopeRow) (marks left : List Bool) → rs ≡ [] → WalkedAll next first n rs marks left → left ≡ marks
   all_end rs marks left e w = go w.passed (subst (λ (x : List ScopeRow). Chains next first x w.passed) e w.chains) w.left_is
     where
@@ -101,7 +82,7 @@ module _ (next : ℕ → ℕ) (first : ScopeRow → ℕ) (n : ℕ) where
       record {
         passed = w.passed ∷ v.passed;
         chains = subst (λ (x : List ScopeRow). Chains next first x (w.passed ∷ v.passed)) (sym e) (subst (λ (x : ℕ). Chain next x w.passed) i w.chain, v.chains);
-        unmarked = fresh_append n marks w.passed ks w.unmarked (subst (λ (m : List Bool). fresh n m ks ≡ true) w.left_is v.unmarked);
+        unmarked = fresh_append n marks w.passed ks ∙ and_from (fresh n marks w.passed) (fresh n (marked marks w.passed) ks) w.unmarked (subst (λ (m : List Bool). fresh n m ks ≡ true) w.left_is v.unmarked);
         left_is = v.left_is ∙ ap (λ m. marked m ks) w.left_is ∙ sym (marked_append marks w.passed ks);
       }
 

@@ -1,8 +1,8 @@
 -- The tables hold the sheet after an accepted entry.
-use Rattle.std.proofs.Common.{◌≡◌, ℕ, ◌+◌, ◌-◌, ◌<◌, ◌≤◌, Bool, true, false, cond, not, eqb, ◌≢◌, List, [], ◌∷◌, ◌++◌, map, length, get_or, set, Some, None, sym, refl, ap, ◌∙◌, subst, arith, rules}
+use Rattle.std.proofs.Common.{◌≡◌, ℕ, ◌+◌, ◌-◌, ◌<◌, ◌≤◌, Bool, true, false, cond, eqb, ◌≢◌, List, [], ◌∷◌, ◌++◌, map, length, get_or, set, Some, None, sym, refl, ap, ◌∙◌, subst, arith, rules}
 use lib.ListN.{length-map}
 use Rattle.std.proofs.lemmas.List.{get_or-take, map_push, map-set, set-get_or}
-use Rattle.std.proofs.lemmas.Bool.{eqb-true, eqb-false, leb-false, not-false, true≢false}
+use Rattle.std.proofs.lemmas.Bool.{eqb-true, eqb-false, leb-false, not-false}
 use Rattle.block.specs.declared.record.Record.{Record}
 use Rattle.screen.specs.declared.entry.Put.{Put}
 use Rattle.screen.specs.declared.entry.Put.TheVariants as put
@@ -11,15 +11,15 @@ use Rattle.screen.specs.declared.entry.Part.TheVariants as part
 use Rattle.screen.specs.declared.node.Node.{Node}
 use Rattle.screen.specs.declared.node.Node.TheVariants as node
 use Rattle.screen.specs.declared.scope.Status.{Status}
-use Rattle.screen.specs.declared.scope.Status.TheVariants.{Unused, Standing as Stood, Joined, Flattened}
+use Rattle.screen.specs.declared.scope.Status.TheVariants.{Unused, Standing as Stood}
 use Rattle.screen.specs.declared.rows.ValueRow.{ValueRow}
 use Rattle.screen.specs.declared.entry.Entry.{Entry}
 use Rattle.screen.specs.declared.entry.Entry.TheVariants as entry
 use Rattle.screen.specs.Entries.{entry_of, node_of, node_by}
+use Rattle.screen.specs.Records.{type_row, path_row}
 use Rattle.screen.specs.Forest.{is_add, can_hold}
 use Rattle.screen.specs.Open.{grow}
 use Rattle.screen.specs.State.{State, Rows, Scope}
-use Rattle.screen.specs.Statuses.{is_unused}
 use Rattle.screen.specs.Standing.{Standing}
 use Rattle.screen.specs.Refused.{statuses, top_of, refused_of}
 use Rattle.screen.specs.WellFormed.{WellFormed, is_listed}
@@ -47,7 +47,7 @@ use Rattle.sheet.proofs.Declaring.{linked, chained_first, chained_next}
 use Rattle.sheet.proofs.Ending.{end_low}
 use Rattle.sheet.proofs.Rooms.{scopes_many, declarations_many, dependencies_many, nodes_many, declared_put, row_put}
 use Rattle.sheet.proofs.Recording.{appended_records}
-use Rattle.screen.proofs.Forming.{formed_after}
+use Rattle.screen.proofs.Forming.{formed_after, is_unused_lem}
 
 -- the same of rows and Scopes that are equal
 chained_for : (S S' : List ScopeRow) (D D' : List DeclarationRow) (ss ss' : List Scope) → S' ≡ S → D' ≡ D → ss' ≡ ss → Chained S D ss → Chained S' D' ss'
@@ -58,13 +58,6 @@ chained_for S S' D D' ss ss' e f g c =
 linked_same : (xs : List DeclarationRow) (k n : ℕ) → map declaration_of (set xs k (followed_by n (get_or xs k no_declaration))) ≡ map declaration_of xs
 linked_same xs k n =
     map-set declaration_of xs k (followed_by n (get_or xs k no_declaration)) ∙ sym (map-set declaration_of xs k (get_or xs k no_declaration)) ∙ ap (λ l. map declaration_of l) (set-get_or xs k no_declaration)
-
--- a Scope that is not in use is unused
-unused_from : (s : Status) → not (is_unused s) ≡ false → s ≡ Unused
-unused_from Unused h = refl
-unused_from Stood h = absurd (true≢false h)
-unused_from Joined h = absurd (true≢false h)
-unused_from Flattened h = absurd (true≢false h)
 
 module _ (m : Memory) (σ : State) (h : Holds m σ) where
   -- the tree among Scopes that may stand otherwise
@@ -109,15 +102,15 @@ module _ (m : Memory) (σ : State) (h : Holds m σ) where
 
   -- a new row, a value, a part of the Scope put last, a node, and Close
   put_holds : (p : Put) → PutRoom m p → WellFormed (after σ (entry.Put p)) → Holds (put_in m p) (after σ (entry.Put p))
-  put_holds (put.Type x) r w =
-      plain_holds (put_in m (put.Type x)) _ (let c = h.counts in let n = pushed_within m.types x r.left in search rules)
-      (ap (λ xs. step.with_types (rows_of m) xs) (pushed_items m.types x r.left) ∙ ap (λ v. rows_after v (entry.Put (put.Type x))) h.rows) refl refl refl refl w
+  put_holds (put.Type k s) r w =
+      plain_holds (put_in m (put.Type k s)) _ (let c = h.counts in let n = pushed_within m.types (type_row k s) r.left in search rules)
+      (ap (λ xs. step.with_types (rows_of m) xs) (pushed_items m.types (type_row k s) r.left) ∙ ap (λ v. rows_after v (entry.Put (put.Type k s))) h.rows) refl refl refl refl w
   put_holds (put.Identifier x) r w =
       plain_holds (put_in m (put.Identifier x)) _ (let c = h.counts in let n = pushed_within m.identifiers x r.left in search rules)
       (ap (λ xs. step.with_identifiers (rows_of m) xs) (pushed_items m.identifiers x r.left) ∙ ap (λ v. rows_after v (entry.Put (put.Identifier x))) h.rows) refl refl refl refl w
-  put_holds (put.Path x) r w =
-      plain_holds (put_in m (put.Path x)) _ (let c = h.counts in let n = pushed_within m.paths x r.left in search rules)
-      (ap (λ xs. step.with_paths (rows_of m) xs) (pushed_items m.paths x r.left) ∙ ap (λ v. rows_after v (entry.Put (put.Path x))) h.rows) refl refl refl refl w
+  put_holds (put.Path a z k o) r w =
+      plain_holds (put_in m (put.Path a z k o)) _ (let c = h.counts in let n = pushed_within m.paths (path_row a z k o) r.left in search rules)
+      (ap (λ xs. step.with_paths (rows_of m) xs) (pushed_items m.paths (path_row a z k o) r.left) ∙ ap (λ v. rows_after v (entry.Put (put.Path a z k o))) h.rows) refl refl refl refl w
   put_holds (put.Scope a z) r w = scope_holds a z r w
   put_holds (put.Read x) r w =
       plain_holds (put_in m (put.Read x)) _ (let c = h.counts in let n = pushed_within m.reads x r.left in search rules)
@@ -354,7 +347,7 @@ module _ (m : Memory) (σ : State) (h : Holds m σ) where
       go (node.Terminal k o v) p is r can a w = open_holds made (node.Terminal k o v) ns p is r.child.room can refl refl (leb-false 63 σ.opened a.crowded_is) w
       go node.Arm p is r can a w = open_holds made node.Arm ns p is r.child.room can refl refl (leb-false 63 σ.opened a.crowded_is) w
       go (node.Scope k) p is r can a w =
-          stands_holds made (node.Scope k) ns p is r.child.room k refl can r.opens.put (unused_from (get_or (statuses σ.scopes) k Unused) a.used_is) (leb-false 63 σ.opened a.crowded_is) w
+          stands_holds made (node.Scope k) ns p is r.child.room k refl can r.opens.put (is_unused_lem (get_or (statuses σ.scopes) k Unused) a.used_is) (leb-false 63 σ.opened a.crowded_is) w
       go (node.Pruned k) p is r can a w = open_holds made (node.Pruned k) ns p is r.child.room can refl refl (leb-false 63 σ.opened a.crowded_is) w
 
   close_holds : eqb σ.opened 0 ≡ false → WellFormed (after σ entry.Close) → Holds (closed_in m) (after σ entry.Close)

@@ -1,5 +1,6 @@
 -- What each node row and each Scope has to be, row by row.
 use Rattle.std.specs.Prelude.{◌≡◌, ℕ, zero, suc, ◌+◌, ◌<◌, Bool, true, false, cond, not, List, length, slice_index_or, slice_set}
+use Rattle.std.specs.Coded.{Π_prop, →_prop}
 use Rattle.screen.specs.declared.node.Node.{Node}
 use Rattle.screen.specs.declared.scope.Status.{Status}
 use Rattle.screen.specs.declared.scope.Status.TheVariants.{Unused}
@@ -9,7 +10,7 @@ use Rattle.screen.specs.Standing.{opening, reached}
 use Rattle.screen.specs.Statuses.{is_gone, is_standing}
 use Rattle.sheet.specs.declared.rows.NodeRow.{NodeRow}
 use Rattle.sheet.specs.Links.{Idle, row}
-use Rattle.sheet.specs.Listed.{ScopeBelow}
+use Rattle.sheet.specs.Listed.{ScopeBelow, ScopeBelow-prop}
 
 -- the sum of g over the numbers below n
 abbrev pub sum_below : ℕ → (ℕ → ℕ) → ℕ
@@ -27,6 +28,9 @@ status_at ss j = slice_index_or ss j Unused
 -- each node that opened a Scope names one of the m that are there
 abbrev pub ScopesNamed : List NodeRow → ℕ → Type 0
 ScopesNamed rows m = (k : ℕ) → k < length rows → ScopeBelow m (node_at rows k)
+
+pub ScopesNamed-prop : (rows : List NodeRow) (m : ℕ) → IsProp (ScopesNamed rows m)
+ScopesNamed-prop rows m = Π_prop (λ k. →_prop (ScopeBelow-prop m (node_at rows k)))
 
 -- a node that should be in the tree is the body or names a parent that can hold it, and one that should not has no links
 pub record Kept (rows : List NodeRow) (ss : List Status) (k : ℕ) : Type 0 where

@@ -18,9 +18,9 @@ pub record Room {T : Type 0} (t : Stored T) : Type 0 where
   pub few : t.count < 1024
 
 abbrev pub PutRoom : Memory → Put → Type 0
-PutRoom m (put.Type t) = Room m.types
+PutRoom m (put.Type k s) = Room m.types
 PutRoom m (put.Identifier i) = Room m.identifiers
-PutRoom m (put.Path p) = Room m.paths
+PutRoom m (put.Path l h k o) = Room m.paths
 PutRoom m (put.Scope a z) = Room m.scopes
 PutRoom m (put.Read r) = Room m.reads
 PutRoom m (put.Shape s) = Room m.shapes

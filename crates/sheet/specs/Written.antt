@@ -1,6 +1,7 @@
 -- What an accepted entry writes into the memory.
 use Rattle.std.specs.Prelude.{◌≡◌, ℕ, ◌+◌, ◌-◌, cond, length, get_or, drop, ◌==◌, slice_index_or, slice_set}
 use Rattle.block.specs.declared.record.Record.{Record}
+use Rattle.screen.specs.Records.{type_row, path_row}
 use Rattle.screen.specs.declared.rows.TypeRow.{TypeRow}
 use Rattle.screen.specs.declared.rows.IdentifierRow.{IdentifierRow}
 use Rattle.screen.specs.declared.rows.PathRow.{PathRow}
@@ -74,9 +75,9 @@ new_scope a z begin = record { start = a; end = z; begin = begin; first = 429496
 
 -- a new row
 abbrev pub put_in : Memory → Put → Memory
-put_in m (put.Type t) = with_types m (pushed m.types t)
+put_in m (put.Type k s) = with_types m (pushed m.types (type_row k s))
 put_in m (put.Identifier i) = with_identifiers m (pushed m.identifiers i)
-put_in m (put.Path p) = with_paths m (pushed m.paths p)
+put_in m (put.Path l h k o) = with_paths m (pushed m.paths (path_row l h k o))
 put_in m (put.Scope a z) = with_scopes m (pushed m.scopes (new_scope a z m.dependencies.count))
 put_in m (put.Read r) = with_reads m (pushed m.reads r)
 put_in m (put.Shape s) = with_shapes m (pushed m.shapes s)

@@ -17,4 +17,4 @@ mod write;
 
 pub use rows::{DeclarationRow, NodeRow, ScopeRow};
 pub use sheet::{Sheet, Work};
-pub use table::Table;
+pub use table::{Limited, Table};

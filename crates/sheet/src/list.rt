@@ -3,7 +3,7 @@
 ghost use Rattle.std.specs.Prelude.{◌≡◌, ℕ, ◌<◌, ◌≤◌, ◌++◌, length, drop};
 ghost use Rattle.screen.specs.Forest.{Forest, body, cnt};
 ghost use Rattle.screen.specs.Standing.{openings};
-ghost use Rattle.screen.specs.Lines.{line_of, lines_of, plain};
+ghost use Rattle.screen.specs.Lines.{line_of, lines_of};
 ghost use Rattle.sheet.specs.Links.{Links};
 ghost use Rattle.sheet.specs.Listed.{ends_of, ScopeBelow};
 
@@ -22,11 +22,12 @@ pub(crate) fn list(nodes: &[NodeRow], scopes: &[ScopeRow], lines: &mut [Line]) -
     let mut child = nodes[0].first;
     let mut level: u32 = 0;
     let mut n: u32 = 0;
+    // the way back up goes by the rows' own links, so that the walk needs no stack; a chain has no such step
     while child != NONE || node != 0 {
         if child != NONE {
             let row = nodes[child as usize];
             level += 1;
-            lines[n as usize] = line(Node::made_by(row.made), child, level, scopes);
+            lines[n as usize] = line(&Node::from(row.made), child, level, scopes);
             n += 1;
             node = child;
             child = row.first;
@@ -41,35 +42,22 @@ pub(crate) fn list(nodes: &[NodeRow], scopes: &[ScopeRow], lines: &mut [Line]) -
 }
 
 /// A node's line.
-fn line(node: Node, number: u32, level: u32, scopes: &[ScopeRow]) -> Line
-    requires { ScopeBelow (length scopes.now) node }
-    ensures { result ≡ line_of (ends_of scopes.now) level number node }
+fn line(node: &Node, number: u32, level: u32, scopes: &[ScopeRow]) -> Line
+    requires { ScopeBelow (length scopes.now) node.now }
+    ensures { result ≡ line_of (ends_of scopes.now) level number node.now }
 {
-    match node {
-        Node::Body => plain_line(level, number, b'B'),
-        Node::Add { .. } => plain_line(level, number, b'I'),
-        Node::Terminal { .. } => plain_line(level, number, b'T'),
-        Node::Arm => plain_line(level, number, b'A'),
+    match *node {
+        Node::Body => Line::plain(level, number, b'B'),
+        Node::Add { .. } => Line::plain(level, number, b'I'),
+        Node::Terminal { .. } => Line::plain(level, number, b'T'),
+        Node::Arm => Line::plain(level, number, b'A'),
         Node::Scope { scope } => Line {
             level,
             node: number,
-            scope,
-            end: scopes[scope as usize].end,
+            scope: u32::from(scope),
+            end: scopes[scope.index()].end,
             letter: b'S',
         },
-        Node::Pruned { .. } => plain_line(level, number, b'P'),
-    }
-}
-
-/// A line with no Scope.
-fn plain_line(level: u32, number: u32, letter: u8) -> Line
-    ensures { result ≡ plain level number letter }
-{
-    Line {
-        level,
-        node: number,
-        scope: NONE,
-        end: NONE,
-        letter,
+        Node::Pruned { .. } => Line::plain(level, number, b'P'),
     }
 }

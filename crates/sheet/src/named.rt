@@ -1,191 +1,175 @@
 //! Whether the rows that an entry names are put, and of the right kind.
 
-ghost use Rattle.std.specs.Prelude.{◌≡◌};
+ghost use Rattle.std.specs.Prelude.{◌≡◌, Some};
 ghost use Rattle.screen.specs.Lists.{is_put, span};
-ghost use Rattle.screen.specs.Named.{operand, optional_operand, optional_put, inner, value_named, node_named, put_named, part_named, named};
+ghost use Rattle.screen.specs.Named.{operand, inner, value_named, node_named, put_named, part_named, named};
 ghost use Rattle.sheet.specs.Tables.{items, memory};
 ghost use Rattle.sheet.specs.Planted.{statuses_of};
 ghost use Rattle.sheet.specs.Holds.{rows_of, Within};
 
 use crate::rows::ScopeRow;
 use crate::sheet::Sheet;
-use screen::{Entry, IdentifierRow, Node, Part, Put, ReadRow, Reads, Value, ValueRow};
+use screen::{
+    Entry, IdentifierId, IdentifierRow, Node, Part, Put, ReadRow, Reads, TypeId, Value, ValueId,
+    ValueRow,
+};
 
-/// The kind of a value that is an inner instruction.
+/// The kind of a value that is an inner instruction, as its lent row keeps it: a number. The definitions compare it as it stands, and
+/// `Value::from` would read the other fields too.
 const INNER: u8 = 16;
 
 /// Whether row n is put.
-pub(crate) fn is_put<T>(rows: &[T], n: u32) -> bool
+pub(crate) fn is_put<T>(rows: &[T], n: usize) -> bool
     ensures { result ≡ is_put rows.now n }
 {
-    (n as usize) < rows.len()
+    n < rows.len()
 }
 
-/// Whether `count` rows from `first` on are put.
+/// Whether `count` rows from `first` on are put. Both are the numbers of a lent row, of whichever table.
 pub(crate) fn is_span<T>(rows: &[T], first: u32, count: u16) -> bool
     ensures { result ≡ span rows.now first count }
 {
     first as usize + count as usize <= rows.len()
 }
 
-/// Whether a row that may be none is put.
-fn is_optional_put<T>(rows: &[T], n: Option<u32>) -> bool
-    ensures { result ≡ optional_put rows.now n }
-{
-    match n {
-        None => true,
-        Some(k) => is_put(rows, k),
-    }
-}
-
 /// Whether value k is put, and is no inner instruction.
-fn is_operand(values: &[ValueRow], k: u32) -> bool
+fn is_operand(values: &[ValueRow], k: ValueId) -> bool
     ensures { result ≡ operand values.now k }
 {
-    (k as usize) < values.len() && values[k as usize].kind != INNER
+    values.get(k.index()).is_some_and(|row| row.kind != INNER)
 }
 
-/// The same of a value that may be none.
-fn is_optional_operand(values: &[ValueRow], k: Option<u32>) -> bool
-    ensures { result ≡ optional_operand values.now k }
+/// Whether value k is put, and is an inner instruction.
+fn is_inner(values: &[ValueRow], k: ValueId) -> bool
+    ensures { result ≡ inner values.now (Some k) }
 {
-    match k {
-        None => true,
-        Some(k) => is_operand(values, k),
+    values.get(k.index()).is_some_and(|row| row.kind == INNER)
+}
+
+/// The rows that values and nodes may name.
+#[derive(Clone, Copy, Debug, PartialEq, Eq)]
+pub(crate) struct Named<'a> {
+    pub identifiers: &'a [IdentifierRow],
+    pub reads: &'a [ReadRow],
+    pub values: &'a [ValueRow],
+    pub scopes: &'a [ScopeRow],
+}
+
+impl Named<'_> {
+    /// Whether an instruction's reads are put.
+    fn reads_put(self, reads: Reads) -> bool
+        ensures { result ≡ span self.entry.reads.now reads.first reads.count }
+    {
+        is_span(self.reads, u32::from(reads.first), reads.count)
     }
-}
 
-/// Whether value k, which may be none, is put, and is an inner instruction.
-fn is_inner(values: &[ValueRow], k: Option<u32>) -> bool
-    ensures { result ≡ inner values.now k }
-{
-    match k {
-        None => true,
-        Some(k) => (k as usize) < values.len() && values[k as usize].kind == INNER,
-    }
-}
-
-/// Whether an instruction's reads are put.
-fn reads_put(rows: &[ReadRow], reads: Reads) -> bool
-    ensures { result ≡ span rows.now reads.first reads.count }
-{
-    is_span(rows, reads.first, reads.count)
-}
-
-/// Whether a value's reads, its stored identifier and its children are put.
-pub(crate) fn value_named(
-    identifiers: &[IdentifierRow],
-    reads: &[ReadRow],
-    values: &[ValueRow],
-    value: Value,
-) -> bool
-    ensures { result ≡ value_named identifiers.now reads.now values.now value }
-{
-    match value {
-        Value::Other(r) => reads_put(reads, r),
-        Value::Simple(r) => reads_put(reads, r),
-        Value::LoadLocal(r) => reads_put(reads, r),
-        Value::StoreConst { reads: r, stored } => reads_put(reads, r)
-            && is_put(identifiers, stored),
-        Value::StoreLocal { reads: r, stored } => reads_put(reads, r)
-            && is_put(identifiers, stored),
-        Value::Logical { left, right } => is_operand(values, left) && is_operand(values, right),
-        Value::Conditional {
-            test,
-            consequent,
-            alternate,
-        } => {
-            is_operand(values, test)
-                && is_operand(values, consequent)
-                && is_operand(values, alternate)
+    /// Whether a value's reads, its stored identifier and its children are put.
+    pub(crate) fn value_named(self, value: &Value) -> bool
+        ensures { result ≡ value_named self.entry.identifiers.now self.entry.reads.now self.entry.values.now value.now }
+    {
+        let values = self.values;
+        match *value {
+            Value::Other(reads) | Value::Simple(reads) | Value::LoadLocal(reads) => {
+                self.reads_put(reads)
+            }
+            Value::StoreConst { reads, stored } | Value::StoreLocal { reads, stored } => {
+                self.reads_put(reads) && is_put(self.identifiers, stored.index())
+            }
+            Value::Logical { left, right } => is_operand(values, left) && is_operand(values, right),
+            Value::Conditional {
+                test,
+                consequent,
+                alternate,
+            } => {
+                is_operand(values, test)
+                    && is_operand(values, consequent)
+                    && is_operand(values, alternate)
+            }
+            Value::Sequence { value, first, .. } => {
+                is_operand(values, value) && first.is_none_or(|k| is_inner(values, k))
+            }
+            Value::Optional { value } => is_operand(values, value),
+            Value::Inner { value, next, .. } => {
+                is_operand(values, value) && next.is_none_or(|k| is_inner(values, k))
+            }
         }
-        Value::Sequence { value, first, .. } => is_operand(values, value)
-            && is_inner(values, first),
-        Value::Optional { value } => is_operand(values, value),
-        Value::Inner { value, next, .. } => is_operand(values, value) && is_inner(values, next),
     }
-}
 
-/// Whether Scope k is put.
-fn scope_put(scopes: &[ScopeRow], k: u32) -> bool
-    ensures { result ≡ is_put (statuses_of scopes.now) k }
-{
-    is_put(scopes, k)
-}
-
-/// Whether a node's value, its target or its Scope is put.
-pub(crate) fn node_named(
-    identifiers: &[IdentifierRow],
-    values: &[ValueRow],
-    scopes: &[ScopeRow],
-    node: Node,
-) -> bool
-    ensures { result ≡ node_named identifiers.now values.now (statuses_of scopes.now) node }
-{
-    match node {
-        Node::Body => true,
-        Node::Add { value, target, .. } => is_operand(values, value)
-            && is_optional_put(identifiers, target),
-        Node::Terminal { value, .. } => is_optional_operand(values, value),
-        Node::Arm => true,
-        Node::Scope { scope } => scope_put(scopes, scope),
-        Node::Pruned { scope } => scope_put(scopes, scope),
+    /// Whether a node's value, its target or its Scope is put.
+    pub(crate) fn node_named(self, node: &Node) -> bool
+        ensures { result ≡ node_named self.entry.identifiers.now self.entry.values.now (statuses_of self.entry.scopes.now) node.now }
+    {
+        let values = self.values;
+        let identifiers = self.identifiers;
+        match *node {
+            Node::Body | Node::Arm => true,
+            Node::Add { value, target, .. } => {
+                is_operand(values, value) && target.is_none_or(|k| is_put(identifiers, k.index()))
+            }
+            Node::Terminal { value, .. } => value.is_none_or(|k| is_operand(values, k)),
+            Node::Scope { scope } | Node::Pruned { scope } => is_put(self.scopes, scope.index()),
+        }
     }
 }
 
 /// Whether the row that a new row names is put.
-fn put_named(s: &Sheet<'_>, put: Put) -> bool
+fn put_named(s: &Sheet<'_>, put: &Put) -> bool
     requires { Within (memory s.now) }
-    ensures { result ≡ put_named (rows_of (memory s.now)) put }
+    ensures { result ≡ put_named (rows_of (memory s.now)) put.now }
 {
-    match put {
-        Put::Type(_) => true,
-        Put::Identifier(row) => is_put(s.types.put(), row.typ),
-        Put::Path(_) => true,
-        Put::Scope { .. } => true,
-        Put::Read(row) => is_put(s.identifiers.put(), row.identifier),
-        Put::Shape(_) => true,
+    match *put {
+        Put::Type { .. } | Put::Path { .. } | Put::Scope { .. } | Put::Shape(_) => true,
+        Put::Identifier(row) => is_put(s.types.put(), TypeId::from(row.typ).index()),
+        Put::Read(row) => is_put(
+            s.identifiers.put(),
+            IdentifierId::from(row.identifier).index(),
+        ),
     }
 }
 
 /// Whether the rows that a part of a Scope names are put.
-fn part_named(s: &Sheet<'_>, part: Part) -> bool
+fn part_named(s: &Sheet<'_>, part: &Part) -> bool
     requires { Within (memory s.now) }
-    ensures { result ≡ part_named (rows_of (memory s.now)) part }
+    ensures { result ≡ part_named (rows_of (memory s.now)) part.now }
 {
     let identifiers = s.identifiers.put();
-    match part {
-        Part::Dependency(row) => is_put(identifiers, row.identifier)
+    match *part {
+        Part::Dependency(row) => is_put(identifiers, IdentifierId::from(row.identifier).index())
             && is_span(s.paths.put(), row.first, row.length),
-        Part::Declaration { key, declared } => is_put(identifiers, key)
-            && is_put(identifiers, declared),
-        Part::Reassignment { identifier } => is_put(identifiers, identifier),
+        Part::Declaration { key, declared } => is_put(identifiers, key.index())
+            && is_put(identifiers, declared.index()),
+        Part::Reassignment { identifier } => is_put(identifiers, identifier.index()),
     }
 }
 
 impl Sheet<'_> {
-    /// Whether the rows that an entry names are put, and of the right kind.
-    pub(crate) fn named(&self, entry: Entry) -> bool
+    /// The rows that values and nodes may name.
+    pub(crate) fn named_rows(&self) -> Named<'_>
         requires { Within (memory self.now) }
-        ensures { result ≡ named (rows_of (memory self.now)) (statuses_of (items (memory self.now).scopes)) entry }
+        ensures identifiers { result.identifiers.now ≡ (items (memory self.now).identifiers) }
+        ensures reads { result.reads.now ≡ (items (memory self.now).reads) }
+        ensures values { result.values.now ≡ (items (memory self.now).values) }
+        ensures scopes { result.scopes.now ≡ (items (memory self.now).scopes) }
+    {
+        Named {
+            identifiers: self.identifiers.put(),
+            reads: self.reads.put(),
+            values: self.values.put(),
+            scopes: self.scopes.put(),
+        }
+    }
+
+    /// Whether the rows that an entry names are put, and of the right kind.
+    pub(crate) fn named(&self, entry: &Entry) -> bool
+        requires { Within (memory self.now) }
+        ensures { result ≡ named (rows_of (memory self.now)) (statuses_of (items (memory self.now).scopes)) entry.now }
     {
         match entry {
             Entry::Put(put) => put_named(self, put),
-            Entry::Part(part) => scope_put(self.scopes.put(), 0) && part_named(self, part),
-            Entry::Value(row) => value_named(
-                self.identifiers.put(),
-                self.reads.put(),
-                self.values.put(),
-                Value::of(row),
-            ),
-            Entry::Node(node) => node_named(
-                self.identifiers.put(),
-                self.values.put(),
-                self.scopes.put(),
-                node,
-            ),
-            Entry::Close => true,
-            Entry::List => true,
+            Entry::Part(part) => self.scopes.count > 0 && part_named(self, part),
+            Entry::Value(row) => self.named_rows().value_named(&Value::from(*row)),
+            Entry::Node(node) => self.named_rows().node_named(node),
+            Entry::Close | Entry::List => true,
         }
     }
 }

@@ -4,7 +4,9 @@ use crate::rows::{DeclarationRow, NodeRow, ScopeRow};
 use crate::table::Table;
 use screen::{DependencyRow, IdentifierRow, Line, PathRow, ReadRow, ShapeRow, TypeRow, ValueRow};
 
-/// A sheet: its tables, and the innermost open node.
+/// A sheet: its tables, and the innermost open node, a plain number as the rows' links are, since a host may hand over any.
+/// Each field is the host's to write, so that no invariant can hold of it: what is known of the tables (`Within`, `Sound`, few rows) is asked
+/// for where it is used.
 #[derive(Drop)]
 pub struct Sheet<'a> {
     pub types: Table<'a, TypeRow>,
@@ -21,7 +23,7 @@ pub struct Sheet<'a> {
 }
 
 /// What only a call needs: the lines of a list, and what a Merge works with, the last use and the source of each declaration (the number
-/// and one more, 0 for none), which declarations are targets, and a list of dependencies.
+/// and one more, 0 for none: lent rows are plain numbers), which declarations are targets, and a list of dependencies.
 #[derive(Drop)]
 pub struct Work<'a> {
     pub lines: &'a mut [Line],

@@ -23,153 +23,143 @@ mod tree;
 mod users;
 mod walk;
 
-use crate::levels::fill_levels;
+use crate::levels::{VALUES, fill_levels};
 use crate::sheet::Sheet;
-use rows::{nodes_kept, rows_kept, values_kept};
+use nodes::TreeRows;
+use rows::rows_kept;
 use scopes::scopes_sound;
-use tree::tree_sound;
 use users::one_user_each;
 
-/// Whether no table counts more rows than its limit.
-fn counts_fit(s: &Sheet<'_>) -> bool
-    ensures { Decides result (Fitted (memory s.now)) }
-{
-    s.types.count <= 256
-        && s.identifiers.count <= 1024
-        && s.paths.count <= 1024
-        && s.scopes.count <= 256
-        && s.dependencies.count <= 1024
-        && s.declarations.count <= 1024
-        && s.reads.count <= 1024
-        && s.values.count <= 1024
-        && s.shapes.count <= 16
-        && s.nodes.count <= 1024
-}
-
-/// Whether each declaration names identifiers that are put.
-fn declarations_kept(s: &Sheet<'_>) -> bool
-    requires { Within (memory s.now) }
-    ensures { result ≡ every (λ d. kept (rows_of (memory s.now)) (statuses_of (items (memory s.now).scopes)) (declaration_record d.key d.declared)) (map declaration_of (items (memory s.now).declarations)) }
-{
-    rows_kept(s, s.declarations.put())
-}
-
-/// Whether the types, identifiers and path entries keep their records' lists and name rows that are put.
-fn front_rows_kept(s: &Sheet<'_>) -> bool
-    requires { Within (memory s.now) }
-    ensures { result ≡ front_kept (rows_of (memory s.now)) (statuses_of (items (memory s.now).scopes)) }
-{
-    rows_kept(s, s.types.put()) && rows_kept(s, s.identifiers.put()) && rows_kept(s, s.paths.put())
-}
-
-/// The same of dependencies, declarations and reads.
-fn middle_rows_kept(s: &Sheet<'_>) -> bool
-    requires { Within (memory s.now) }
-    ensures { result ≡ middle_kept (rows_of (memory s.now)) (statuses_of (items (memory s.now).scopes)) }
-{
-    rows_kept(s, s.dependencies.put()) && declarations_kept(s) && rows_kept(s, s.reads.put())
-}
-
-/// The same of own shapes.
-fn shapes_kept(s: &Sheet<'_>) -> bool
-    requires { Within (memory s.now) }
-    ensures { result ≡ shapes_kept (rows_of (memory s.now)) (statuses_of (items (memory s.now).scopes)) }
-{
-    rows_kept(s, s.shapes.put())
-}
-
-/// Whether the values' rows keep their lists and name rows that are put, their children among the values before them.
-fn value_rows_kept(s: &Sheet<'_>) -> bool
-    requires { Within (memory s.now) }
-    ensures { result ≡ values_kept (items (memory s.now).identifiers) (items (memory s.now).reads) [] (items (memory s.now).values) }
-{
-    values_kept(s.identifiers.put(), s.reads.put(), s.values.put())
-}
-
-/// Whether no value nests deeper than 64 levels.
-fn levels_fit(s: &Sheet<'_>) -> bool
-    requires within { Within (memory s.now) }
-    requires few { length (items (memory s.now).values) ≤ 1024 }
-    ensures { result ≡ every (λ n. nat_le n 64) (levels_of (items (memory s.now).values)) }
-{
-    let mut levels = [0; 1024];
-    fill_levels(s.values.put(), &mut levels)
-}
-
-/// Whether each node's row is as it should be by itself.
-fn node_rows_kept(s: &Sheet<'_>) -> bool
-    requires { Within (memory s.now) }
-    ensures { Decides result (NodesKept (items (memory s.now).identifiers) (items (memory s.now).values) (statuses_of (items (memory s.now).scopes)) (items (memory s.now).nodes)) }
-{
-    nodes_kept(
-        s.identifiers.put(),
-        s.values.put(),
-        s.scopes.put(),
-        s.nodes.put(),
-    )
-}
-
-/// Whether each value that is named is put, and has one user.
-fn users_apart(s: &Sheet<'_>) -> bool
-    requires within { Within (memory s.now) }
-    requires few { length (items (memory s.now).values) ≤ 1024 }
-    ensures { result ≡ fresh (length (items (memory s.now).values)) (replicate 1024 false) (namings (items (memory s.now).values) (nodes_of (items (memory s.now).nodes))) }
-{
-    one_user_each(s.values.put(), s.nodes.put())
-}
-
-/// Whether the Scopes' rows and their lists are as they should be.
-fn scopes_hold(s: &Sheet<'_>) -> bool
-    requires within { Within (memory s.now) }
-    requires fitted { Fitted (memory s.now) }
-    ensures { Decides result (ScopesSound (memory s.now)) }
-{
-    scopes_sound(s.scopes.put(), s.declarations.put(), s.dependencies.count)
-}
-
-/// Whether the nodes' rows hold a tree as they should.
-fn tree_holds(s: &Sheet<'_>) -> bool
-    requires within { Within (memory s.now) }
-    requires fitted { Fitted (memory s.now) }
-    requires rows { RowsSound (memory s.now) }
-    ensures { Decides result (TreeSound (memory s.now)) }
-{
-    tree_sound(s.nodes.put(), s.scopes.put(), s.innermost)
-}
-
 impl Sheet<'_> {
+    /// Whether no table counts more rows than its limit.
+    fn counts_fit(&self) -> bool
+        ensures { Decides result (Fitted (memory self.now)) }
+    {
+        self.types.is_fitting()
+            && self.identifiers.is_fitting()
+            && self.paths.is_fitting()
+            && self.scopes.is_fitting()
+            && self.dependencies.is_fitting()
+            && self.declarations.is_fitting()
+            && self.reads.is_fitting()
+            && self.values.is_fitting()
+            && self.shapes.is_fitting()
+            && self.nodes.is_fitting()
+    }
+
+    /// Whether each declaration names identifiers that are put. This and the tests below hand rows on, and each states its fact of the memory,
+    /// of which the examination's answer is made.
+    fn declarations_kept(&self) -> bool
+        requires { Within (memory self.now) }
+        ensures { result ≡ every (λ d. kept (rows_of (memory self.now)) (statuses_of (items (memory self.now).scopes)) (declaration_record d.key d.declared)) (map declaration_of (items (memory self.now).declarations)) }
+    {
+        rows_kept(self, self.declarations.put())
+    }
+
+    /// Whether the types, identifiers and path entries keep their records' lists and name rows that are put.
+    fn front_rows_kept(&self) -> bool
+        requires { Within (memory self.now) }
+        ensures { result ≡ front_kept (rows_of (memory self.now)) (statuses_of (items (memory self.now).scopes)) }
+    {
+        rows_kept(self, self.types.put())
+            && rows_kept(self, self.identifiers.put())
+            && rows_kept(self, self.paths.put())
+    }
+
+    /// The same of dependencies, declarations and reads.
+    fn middle_rows_kept(&self) -> bool
+        requires { Within (memory self.now) }
+        ensures { result ≡ middle_kept (rows_of (memory self.now)) (statuses_of (items (memory self.now).scopes)) }
+    {
+        rows_kept(self, self.dependencies.put())
+            && self.declarations_kept()
+            && rows_kept(self, self.reads.put())
+    }
+
+    /// The same of own shapes.
+    fn shapes_kept(&self) -> bool
+        requires { Within (memory self.now) }
+        ensures { result ≡ shapes_kept (rows_of (memory self.now)) (statuses_of (items (memory self.now).scopes)) }
+    {
+        rows_kept(self, self.shapes.put())
+    }
+
+    /// Whether the values' rows keep their lists and name rows that are put, their children among the values before them.
+    fn value_rows_kept(&self) -> bool
+        requires { Within (memory self.now) }
+        ensures { result ≡ values_kept (items (memory self.now).identifiers) (items (memory self.now).reads) [] (items (memory self.now).values) }
+    {
+        self.named_rows().values_kept()
+    }
+
+    /// Whether no value nests deeper than 64 levels.
+    fn levels_fit(&self) -> bool
+        requires within { Within (memory self.now) }
+        requires few { length (items (memory self.now).values) ≤ 1024 }
+        ensures { result ≡ every (λ n. nat_le n 64) (levels_of (items (memory self.now).values)) }
+    {
+        let mut levels = [0; VALUES];
+        fill_levels(self.values.put(), &mut levels)
+    }
+
+    /// Whether each node's row is as it should be by itself.
+    fn node_rows_kept(&self) -> bool
+        requires { Within (memory self.now) }
+        ensures { Decides result (NodesKept (items (memory self.now).identifiers) (items (memory self.now).values) (statuses_of (items (memory self.now).scopes)) (items (memory self.now).nodes)) }
+    {
+        self.named_rows().nodes_kept(self.nodes.put())
+    }
+
+    /// Whether each value that is named is put, and has one user.
+    fn users_apart(&self) -> bool
+        requires within { Within (memory self.now) }
+        requires few { length (items (memory self.now).values) ≤ 1024 }
+        ensures { result ≡ fresh (length (items (memory self.now).values)) (replicate 1024 false) (namings (items (memory self.now).values) (nodes_of (items (memory self.now).nodes))) }
+    {
+        one_user_each(self.values.put(), self.nodes.put())
+    }
+
+    /// Whether the Scopes' rows and their lists are as they should be.
+    fn scopes_hold(&self) -> bool
+        requires within { Within (memory self.now) }
+        requires fitted { Fitted (memory self.now) }
+        ensures { Decides result (ScopesSound (memory self.now)) }
+    {
+        scopes_sound(
+            self.scopes.put(),
+            self.declarations.put(),
+            self.dependencies.count,
+        )
+    }
+
+    /// Whether the nodes' rows hold a tree as they should.
+    fn tree_holds(&self) -> bool
+        requires within { Within (memory self.now) }
+        requires fitted { Fitted (memory self.now) }
+        requires rows { RowsSound (memory self.now) }
+        ensures { Decides result (TreeSound (memory self.now)) }
+    {
+        let tree = TreeRows {
+            nodes: self.nodes.put(),
+            scopes: self.scopes.put(),
+        };
+        tree.tree_sound(self.innermost)
+    }
+
     /// Whether the tables are sound. They are gone through in the order of their records' tags, the nodes last.
     pub(crate) fn is_sound(&self) -> bool
         requires { Long (memory self.now) }
         ensures { Decides result (Sound (memory self.now)) }
     {
-        if !counts_fit(self) {
-            return false;
-        }
-        if !front_rows_kept(self) {
-            return false;
-        }
-        if !scopes_hold(self) {
-            return false;
-        }
-        if !middle_rows_kept(self) {
-            return false;
-        }
-        if !value_rows_kept(self) {
-            return false;
-        }
-        if !levels_fit(self) {
-            return false;
-        }
-        if !shapes_kept(self) {
-            return false;
-        }
-        if !node_rows_kept(self) {
-            return false;
-        }
-        if !users_apart(self) {
-            return false;
-        }
-        tree_holds(self)
+        self.counts_fit()
+            && self.front_rows_kept()
+            && self.scopes_hold()
+            && self.middle_rows_kept()
+            && self.value_rows_kept()
+            && self.levels_fit()
+            && self.shapes_kept()
+            && self.node_rows_kept()
+            && self.users_apart()
+            && self.tree_holds()
     }
 }

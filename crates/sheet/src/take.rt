@@ -1,6 +1,6 @@
 //! One record on a sheet.
 
-ghost use Rattle.std.specs.Prelude.{◌≡◌, ◌<◌, true, ◌++◌, length, drop, is_ok, Ok, Err, Decides};
+ghost use Rattle.std.specs.Prelude.{◌≡◌, ◌<◌, true, ◌++◌, length, drop, is_ok, Ok, Err, Decides, MatchResult};
 ghost use Rattle.screen.specs.declared.answer.Refusal.TheVariants.{Short, Unsound};
 ghost use Rattle.block.specs.Fields.{fields_of};
 ghost use Rattle.screen.specs.State.{State, new};
@@ -14,34 +14,49 @@ ghost use Rattle.sheet.specs.Takes.{Takes, Keeps, with_lines};
 use crate::list::list;
 use crate::rows::NodeRow;
 use crate::sheet::{Sheet, Work};
+use crate::table::Limited;
 use block::Record;
-use screen::{Answer, Entry, NONE, Refusal};
+use screen::{Answer, DependencyRow, Entry, NONE, Refusal};
+
+/// As many declarations as identifiers may name.
+const DECLARATIONS: usize = 1024;
 
 /// Whether each of the sheet's tables is as long as its limit.
 fn is_long(s: &Sheet<'_>) -> bool
     ensures { Decides result (Long (memory s.now)) }
 {
-    s.types.rows.len() >= 256
-        && s.identifiers.rows.len() >= 1024
-        && s.paths.rows.len() >= 1024
-        && s.scopes.rows.len() >= 256
-        && s.dependencies.rows.len() >= 1024
-        && s.declarations.rows.len() >= 1024
-        && s.reads.rows.len() >= 1024
-        && s.values.rows.len() >= 1024
-        && s.shapes.rows.len() >= 16
-        && s.nodes.rows.len() >= 1024
+    s.types.is_long()
+        && s.identifiers.is_long()
+        && s.paths.is_long()
+        && s.scopes.is_long()
+        && s.dependencies.is_long()
+        && s.declarations.is_long()
+        && s.reads.is_long()
+        && s.values.is_long()
+        && s.shapes.is_long()
+        && s.nodes.is_long()
 }
 
-/// Whether each work table is as long as its limit.
+/// Whether each work table is as long as its limit: a line for each node, a use, a source and a target for each declaration.
 fn is_work_long(w: &Work<'_>) -> bool
     ensures { Decides result (WorkLong (work_memory w.now)) }
 {
-    w.lines.len() >= 1024
-        && w.uses.len() >= 1024
-        && w.sources.len() >= 1024
-        && w.targets.len() >= 1024
-        && w.scratch.len() >= 1024
+    w.lines.len() >= NodeRow::LIMIT as usize
+        && w.uses.len() >= DECLARATIONS
+        && w.sources.len() >= DECLARATIONS
+        && w.targets.len() >= DECLARATIONS
+        && w.scratch.len() >= DependencyRow::LIMIT as usize
+}
+
+/// Fails where a table is shorter than its limit.
+fn lent_enough(s: &Sheet<'_>, w: &Work<'_>) -> Result<(), Refusal>
+    ensures { MatchResult result (λ _. AllLong (memory s.now) (work_memory w.now)) (λ r. (r ≡ Short) × (AllLong (memory s.now) (work_memory w.now) → ⊥)) }
+{
+    if is_long(s) && is_work_long(w) {
+        Ok(())
+    } else {
+        Err(Refusal::Short)
+    }
 }
 
 impl Sheet<'_> {
@@ -64,17 +79,17 @@ impl Sheet<'_> {
             → Takes σ (fields_of «record») (memory self.new) (work_memory work.old) (work_memory work.new) result }
         ensures keeps { Keeps (memory self.old) (memory self.new) (work_memory work.old) (work_memory work.new) result }
     {
-        let made = Record::split(record);
-        let Some(entry) = Entry::of(made) else {
-            return Err(Refusal::Field);
+        let made = Record::from(record);
+        // a `?` finds no proof here: the checker is not told which modules hold the types inside an entry
+        let entry = match Entry::try_from(made) {
+            Ok(entry) => entry,
+            Err(refusal) => return Err(refusal),
         };
-        if let Some(refusal) = self.refusal(entry) {
-            return Err(refusal);
-        }
+        self.admits(&entry)?;
         if let Entry::List = entry {
             return Ok(Answer::Listed(self.list(work)));
         }
-        self.write(made, entry);
+        self.write(made, &entry);
         Ok(Answer::Accepted)
     }
 
@@ -87,12 +102,7 @@ impl Sheet<'_> {
         ensures keeps { Keeps (memory self.old) (memory self.new) (work_memory work.old) (work_memory work.new) result }
         ensures ready { Ready (memory self.old) (work_memory work.old) → Ready (memory self.new) (work_memory work.new) }
     {
-        if !is_long(self) {
-            return Err(Refusal::Short);
-        }
-        if !is_work_long(work) {
-            return Err(Refusal::Short);
-        }
+        lent_enough(self, work)?;
         if !self.is_sound() {
             return Err(Refusal::Unsound);
         }
@@ -105,12 +115,7 @@ impl Sheet<'_> {
         ensures new { AllLong (memory self.old) (work_memory work.now) → (result ≡ Ok tt) × Holds (memory self.new) new × RestKept (memory self.old) (memory self.new) }
         ensures ready { is_ok result ≡ true → Ready (memory self.new) (work_memory work.now) }
     {
-        if !is_long(self) {
-            return Err(Refusal::Short);
-        }
-        if !is_work_long(work) {
-            return Err(Refusal::Short);
-        }
+        lent_enough(self, work)?;
         self.clear();
         Ok(())
     }
@@ -120,31 +125,17 @@ impl Sheet<'_> {
         requires { 0 < length (memory self.old).nodes.rows }
         ensures { memory self.new ≡ cleared (memory self.old) }
     {
-        self.types.count = 0;
-        self.identifiers.count = 0;
-        self.paths.count = 0;
-        self.scopes.count = 0;
-        self.dependencies.count = 0;
-        self.declarations.count = 0;
-        self.reads.count = 0;
-        self.values.count = 0;
-        self.shapes.count = 0;
-        let made = Record {
-            tag: 0,
-            p: 0,
-            q: 0,
-            r: 0,
-            s: 0,
-            t: 0,
-        };
-        self.nodes.rows[0] = NodeRow {
-            made,
-            parent: NONE,
-            first: NONE,
-            last: NONE,
-            next: NONE,
-        };
-        self.nodes.count = 1;
+        self.types.clear();
+        self.identifiers.clear();
+        self.paths.clear();
+        self.scopes.clear();
+        self.dependencies.clear();
+        self.declarations.clear();
+        self.reads.clear();
+        self.values.clear();
+        self.shapes.clear();
+        self.nodes.clear();
+        self.nodes.push(NodeRow::new(Record::default(), NONE));
         self.innermost = 0;
     }
 }

@@ -1,7 +1,8 @@
 //! Which values have a user.
 
-ghost use Rattle.std.specs.Prelude.{◌≡◌, ◌-◌, [], ◌∷◌, length, slice_index_or};
+ghost use Rattle.std.specs.Prelude.{◌≡◌, ℕ, ◌-◌, List, length, slice_index_or};
 ghost use Rattle.screen.specs.declared.scope.Status.TheVariants.{Unused};
+ghost use Rattle.screen.specs.Entries.{node_of};
 ghost use Rattle.screen.specs.Lists.{member, gathered, present};
 ghost use Rattle.screen.specs.Users.{names_of, names_in, value_in, namings, taken};
 ghost use Rattle.screen.specs.Refused.{in_use, node_used, used};
@@ -11,36 +12,17 @@ ghost use Rattle.sheet.specs.Holds.{rows_of, Within};
 
 use crate::rows::{NodeRow, ScopeRow};
 use crate::sheet::Sheet;
-use screen::{Entry, Node, Status, Value, ValueRow};
+use screen::{Entry, Node, Status, Value, ValueId, ValueRow};
 
 /// Whether k is among these rows, of which some are none.
-fn among(names: &[Option<u32>], k: u32) -> bool
+fn among(names: &[Option<ValueId>], k: ValueId) -> bool
     ensures { result ≡ member k (present names.now) }
 {
-    for name in names {
-        if let Some(n) = *name {
-            if n == k {
-                return true;
-            }
-        }
-    }
-    false
-}
-
-/// Whether one of the values names value k.
-fn value_user(values: &[ValueRow], k: u32) -> bool
-    ensures { result ≡ member k (gathered names_of values.now) }
-{
-    for row in values {
-        if among(&Value::of(*row).children(), k) {
-            return true;
-        }
-    }
-    false
+    names.iter().filter_map(|name| *name).any(|n| n == k)
 }
 
 /// The value that a node names.
-pub(crate) fn value_in(node: Node) -> Option<u32>
+fn value_in(node: Node) -> Option<ValueId>
     ensures { result ≡ value_in node }
 {
     match node {
@@ -50,48 +32,90 @@ pub(crate) fn value_in(node: Node) -> Option<u32>
     }
 }
 
-/// Whether one of the nodes names value k.
-fn node_user(nodes: &[NodeRow], k: u32) -> bool
-    ensures { result ≡ member k (gathered names_in (nodes_of nodes.now)) }
-{
-    for row in nodes {
-        if among(&[value_in(Node::made_by(row.made))], k) {
-            return true;
-        }
+/// A row that names values.
+pub trait Naming: Copy {
+    // the numbers of the values that it names
+    ghost names: { Self → List ℕ };
+
+    /// The values that it names, in places that may be empty.
+    fn names(&self) -> [Option<ValueId>; 4]
+        ensures { present result ≡ names self.now };
+}
+
+impl Naming for ValueRow {
+    ghost names = { names_of };
+
+    fn names(&self) -> [Option<ValueId>; 4] {
+        Value::from(*self).children()
     }
-    false
 }
 
-/// Whether value k has a user.
-fn has_user(values: &[ValueRow], nodes: &[NodeRow], k: u32) -> bool
-    ensures { result ≡ member k (namings values.now (nodes_of nodes.now)) }
-{
-    value_user(values, k) || node_user(nodes, k)
+impl Naming for NodeRow {
+    ghost names = { λ n. names_in (node_of n.made) };
+
+    fn names(&self) -> [Option<ValueId>; 4] {
+        [value_in(Node::from(self.made)), None, None, None]
+    }
 }
 
-/// Whether one of the values named here has a user, or is named twice.
-fn is_taken(values: &[ValueRow], nodes: &[NodeRow], names: &[Option<u32>]) -> bool
-    ensures { result ≡ taken (namings values.now (nodes_of nodes.now)) (present names.now) }
+/// Whether one of the rows names value k.
+fn is_named<R: Naming>(rows: &[R], k: ValueId) -> bool
+    ensures { result ≡ member k (gathered R.Naming.names rows.now) }
 {
-    let count = names.len();
-    for i in 0..count {
-        if let Some(k) = names[i] {
-            if has_user(values, nodes, k) || among(&names[i + 1..count], k) {
-                return true;
+    rows.iter().any(|row| among(&row.names(), k))
+}
+
+/// The rows that name values, and the Scopes, which nodes open.
+#[derive(Clone, Copy, Debug, PartialEq, Eq)]
+struct Users<'a> {
+    values: &'a [ValueRow],
+    nodes: &'a [NodeRow],
+    scopes: &'a [ScopeRow],
+}
+
+impl Users<'_> {
+    /// Whether value k has a user.
+    fn has_user(self, k: ValueId) -> bool
+        ensures { result ≡ member k (namings self.entry.values.now (nodes_of self.entry.nodes.now)) }
+    {
+        is_named(self.values, k) || is_named(self.nodes, k)
+    }
+
+    /// Whether one of the values named here has a user, or is named twice.
+    fn is_taken(self, names: &[Option<ValueId>]) -> bool
+        ensures { result ≡ taken (namings self.entry.values.now (nodes_of self.entry.nodes.now)) (present names.now) }
+    {
+        // No plainer as a chain: it would put a closure into a closure, and a name would need its place all the same.
+        for (i, name) in names.iter().enumerate() {
+            if let Some(k) = *name {
+                if self.has_user(k) || among(&names[i + 1..], k) {
+                    return true;
+                }
             }
         }
+        false
     }
-    false
+
+    /// Whether a value that a node names has a user, or the Scope that it opens is not unused.
+    fn node_used(self, node: &Node) -> bool
+        ensures { result ≡ node_used (namings self.entry.values.now (nodes_of self.entry.nodes.now)) (statuses_of self.entry.scopes.now) node.now }
+    {
+        match *node {
+            Node::Body | Node::Arm | Node::Pruned { .. } => false,
+            Node::Add { value, .. } => self.is_taken(&[Some(value)]),
+            Node::Terminal { value, .. } => self.is_taken(&[value]),
+            Node::Scope { scope } => in_use(self.scopes, scope.index()),
+        }
+    }
 }
 
 /// How Scope k stands; one that is not put is unused.
 pub(crate) fn status_at(scopes: &[ScopeRow], k: usize) -> Status
     ensures { result ≡ slice_index_or (statuses_of scopes.now) k Unused }
 {
-    if k >= scopes.len() {
-        return Status::Unused;
-    }
-    Status::of(scopes[k].status)
+    scopes
+        .get(k)
+        .map_or(Status::Unused, |row| Status::from(row.status))
 }
 
 /// Whether Scope k is not unused.
@@ -101,39 +125,38 @@ fn in_use(scopes: &[ScopeRow], k: usize) -> bool
     !status_at(scopes, k).is_unused()
 }
 
-/// Whether the Scope put last is not unused.
+/// Whether the Scope put last is not unused. By its number, as the definitions name it.
 fn last_in_use(scopes: &[ScopeRow]) -> bool
     ensures { result ≡ in_use (statuses_of scopes.now) (length (statuses_of scopes.now) - 1) }
 {
     in_use(scopes, scopes.len().saturating_sub(1))
 }
 
-/// Whether a value that a node names has a user, or the Scope that it opens is not unused.
-fn node_used(values: &[ValueRow], nodes: &[NodeRow], scopes: &[ScopeRow], node: Node) -> bool
-    ensures { result ≡ node_used (namings values.now (nodes_of nodes.now)) (statuses_of scopes.now) node }
-{
-    match node {
-        Node::Body | Node::Arm | Node::Pruned { .. } => false,
-        Node::Add { value, .. } => is_taken(values, nodes, &[Some(value)]),
-        Node::Terminal { value, .. } => is_taken(values, nodes, &[value]),
-        Node::Scope { scope } => in_use(scopes, scope as usize),
-    }
-}
-
 impl Sheet<'_> {
-    /// Whether a value that is named has a user or is named twice, or a Scope is not unused: the one to be opened, or the one put last.
-    pub(crate) fn used(&self, entry: Entry) -> bool
+    /// The rows that name values, and the Scopes.
+    fn users(&self) -> Users<'_>
         requires { Within (memory self.now) }
-        ensures { result ≡ used (rows_of (memory self.now)) (statuses_of (items (memory self.now).scopes)) entry }
+        ensures values { result.values.now ≡ (items (memory self.now).values) }
+        ensures nodes { result.nodes.now ≡ (items (memory self.now).nodes) }
+        ensures scopes { result.scopes.now ≡ (items (memory self.now).scopes) }
     {
-        let values = self.values.put();
-        let nodes = self.nodes.put();
-        let scopes = self.scopes.put();
+        Users {
+            values: self.values.put(),
+            nodes: self.nodes.put(),
+            scopes: self.scopes.put(),
+        }
+    }
+
+    /// Whether a value that is named has a user or is named twice, or a Scope is not unused: the one to be opened, or the one put last.
+    pub(crate) fn used(&self, entry: &Entry) -> bool
+        requires { Within (memory self.now) }
+        ensures { result ≡ used (rows_of (memory self.now)) (statuses_of (items (memory self.now).scopes)) entry.now }
+    {
         match entry {
             Entry::Put(_) | Entry::Close | Entry::List => false,
-            Entry::Part(_) => last_in_use(scopes),
-            Entry::Value(row) => is_taken(values, nodes, &Value::of(row).children()),
-            Entry::Node(node) => node_used(values, nodes, scopes, node),
+            Entry::Part(_) => last_in_use(self.scopes.put()),
+            Entry::Value(row) => self.users().is_taken(&Value::from(*row).children()),
+            Entry::Node(node) => self.users().node_used(node),
         }
     }
 }

@@ -16,7 +16,9 @@ use crate::rows::{DeclarationRow, ScopeRow};
 use crate::sheet::Sheet;
 use crate::tree::append;
 use block::Record;
-use screen::{Entry, NONE, Node, Part, Put, ValueRow};
+use screen::{
+    Entry, IdentifierId, NONE, Node, NodeId, Part, PathRow, Put, ScopeId, TypeRow, ValueRow,
+};
 
 /// The last row of the list from `first`, which has at most as many rows as are put; none is no row's number.
 fn last_row(rows: &[DeclarationRow], first: u32) -> u32
@@ -25,6 +27,7 @@ fn last_row(rows: &[DeclarationRow], first: u32) -> u32
     ensures within { result < length rows.now }
 {
     let mut at = first;
+    // the list goes by its rows' links; the rows' number only bounds the steps
     for _step in 0..rows.len() {
         let next = rows[at as usize].next;
         if next as usize >= rows.len() {
@@ -37,26 +40,30 @@ fn last_row(rows: &[DeclarationRow], first: u32) -> u32
 
 impl Sheet<'_> {
     /// Puts a new row, for which there is room.
-    fn put_row(&mut self, put: Put)
-        requires { PutRoom (memory self.old) put }
-        ensures { memory self.new ≡ put_in (memory self.old) put }
+    fn put_row(&mut self, put: &Put)
+        requires { PutRoom (memory self.old) put.now }
+        ensures { memory self.new ≡ put_in (memory self.old) put.now }
     {
-        match put {
-            Put::Type(row) => self.types.push(row),
+        match *put {
+            Put::Type { kind, shape } => self.types.push(TypeRow {
+                shape,
+                kind: u8::from(kind),
+            }),
             Put::Identifier(row) => self.identifiers.push(row),
-            Put::Path(row) => self.paths.push(row),
+            Put::Path {
+                low,
+                high,
+                kind,
+                optional,
+            } => self.paths.push(PathRow {
+                low,
+                high,
+                kind: u16::from(kind),
+                optional: u8::from(optional),
+            }),
             Put::Scope { start, end } => {
                 let begin = self.dependencies.count;
-                self.scopes.push(ScopeRow {
-                    start,
-                    end,
-                    begin,
-                    first: NONE,
-                    merged: NONE,
-                    next: NONE,
-                    status: 0,
-                    reassigns: 0,
-                });
+                self.scopes.push(ScopeRow::new(start, end, begin));
             }
             Put::Read(row) => self.reads.push(row),
             Put::Shape(row) => self.shapes.push(row),
@@ -77,31 +84,23 @@ impl Sheet<'_> {
         ensures { memory self.new ≡ with_scopes (memory self.old) (change_scope (memory self.old).scopes (last_scope (memory self.old)) reassigning) }
     {
         let last = self.scopes.count as usize - 1;
-        let row = self.scopes.rows[last];
-        self.scopes.rows[last] = ScopeRow {
-            reassigns: 1,
-            ..row
-        };
+        self.scopes.rows[last] = self.scopes.rows[last].reassigning();
     }
 
     /// Puts the first declaration of the Scope put last.
-    fn declare_first(&mut self, key: u32, declared: u32)
+    fn declare_first(&mut self, key: IdentifierId, declared: IdentifierId)
         requires { DeclarationRoom (memory self.old) }
         ensures { memory self.new ≡ declared_first (memory self.old) key declared }
     {
         let first = self.declarations.count;
-        self.declarations.push(DeclarationRow {
-            key,
-            declared,
-            next: NONE,
-        });
+        self.declarations.push(DeclarationRow::new(key, declared));
         let last = self.scopes.count as usize - 1;
         let row = self.scopes.rows[last];
         self.scopes.rows[last] = ScopeRow { first, ..row };
     }
 
     /// Puts a declaration after the last one of the Scope put last.
-    fn declare_next(&mut self, key: u32, declared: u32)
+    fn declare_next(&mut self, key: IdentifierId, declared: IdentifierId)
         requires room { DeclarationRoom (memory self.old) }
         requires some { first_declared (memory self.old) ≢ 4294967295 }
         ensures { memory self.new ≡ declared_next (memory self.old) key declared }
@@ -109,23 +108,21 @@ impl Sheet<'_> {
         let first = self.scopes.rows[self.scopes.count as usize - 1].first;
         let end = last_row(self.declarations.put(), first) as usize;
         let next = self.declarations.count;
-        self.declarations.push(DeclarationRow {
-            key,
-            declared,
-            next: NONE,
-        });
+        self.declarations.push(DeclarationRow::new(key, declared));
         let row = self.declarations.rows[end];
         self.declarations.rows[end] = DeclarationRow { next, ..row };
     }
 
     /// Puts a part of the Scope put last.
-    fn put_part(&mut self, part: Part)
-        requires { PartRoom (memory self.old) part }
-        ensures { memory self.new ≡ part_in (memory self.old) part }
+    fn put_part(&mut self, part: &Part)
+        requires { PartRoom (memory self.old) part.now }
+        ensures { memory self.new ≡ part_in (memory self.old) part.now }
     {
-        match part {
+        match *part {
             Part::Dependency(row) => self.dependencies.push(row),
+            // The two go on as they stand in the part: a struct of them would be made here and taken apart in `DeclarationRow::new`.
             Part::Declaration { key, declared } => {
+                // the link of a lent row is a number, which may be none
                 if self.scopes.rows[self.scopes.count as usize - 1].first == NONE {
                     self.declare_first(key, declared);
                 } else {
@@ -137,12 +134,11 @@ impl Sheet<'_> {
     }
 
     /// Makes a Scope stand.
-    fn stand(&mut self, scope: u32)
+    fn stand(&mut self, scope: ScopeId)
         requires { ScopeRoom (memory self.old) scope }
         ensures { memory self.new ≡ with_scopes (memory self.old) (change_scope (memory self.old).scopes scope standing) }
     {
-        let row = self.scopes.rows[scope as usize];
-        self.scopes.rows[scope as usize] = ScopeRow { status: 1, ..row };
+        self.scopes.rows[scope.index()] = self.scopes.rows[scope.index()].standing();
     }
 
     /// Puts a node after the last child of the innermost open node.
@@ -151,17 +147,17 @@ impl Sheet<'_> {
         ensures put { NodePut (memory self.old).nodes (memory self.old).innermost made (memory self.new).nodes }
         ensures is { memory self.new ≡ with_nodes (memory self.old) (memory self.new).nodes }
     {
-        append(&mut self.nodes, self.innermost, made);
+        append(&mut self.nodes, NodeId::from(self.innermost), made);
     }
 
     /// Puts a node, which is the innermost open node then unless Add made it.
-    fn put_node(&mut self, made: Record, node: Node)
-        requires { NodeRoom (memory self.old) node }
-        ensures { NodeIn (memory self.old) made node (memory self.new) }
+    fn put_node(&mut self, made: Record, node: &Node)
+        requires { NodeRoom (memory self.old) node.now }
+        ensures { NodeIn (memory self.old) made node.now (memory self.new) }
     {
         let n = self.nodes.count;
         self.put_child(made);
-        match node {
+        match *node {
             Node::Add { .. } => {}
             Node::Scope { scope } => {
                 self.stand(scope);
@@ -181,14 +177,14 @@ impl Sheet<'_> {
     }
 
     /// Writes an entry, for which there is room; `made` is its record.
-    fn put_entry(&mut self, made: Record, entry: Entry)
-        requires { EntryRoom (memory self.old) entry }
-        ensures { Wrote (memory self.old) made entry (memory self.new) }
+    fn put_entry(&mut self, made: Record, entry: &Entry)
+        requires { EntryRoom (memory self.old) entry.now }
+        ensures { Wrote (memory self.old) made entry.now (memory self.new) }
     {
         match entry {
             Entry::Put(put) => self.put_row(put),
             Entry::Part(part) => self.put_part(part),
-            Entry::Value(row) => self.put_value(row),
+            Entry::Value(row) => self.put_value(*row),
             Entry::Node(node) => self.put_node(made, node),
             Entry::Close => self.close(),
             Entry::List => {}
@@ -196,10 +192,10 @@ impl Sheet<'_> {
     }
 
     /// Writes an accepted entry; `made` is its record.
-    pub(crate) fn write(&mut self, made: Record, entry: Entry)
-        requires ready { (σ : State) × Holds (memory self.old) σ × (entry_of made ≡ Some entry) × (refused_of σ entry ≡ None) }
+    pub(crate) fn write(&mut self, made: Record, entry: &Entry)
+        requires ready { (σ : State) × Holds (memory self.old) σ × (entry_of made ≡ Some entry.now) × (refused_of σ entry.now ≡ None) }
         requires long { Long (memory self.old) }
-        ensures holds { (σ : State) → Holds (memory self.old) σ → Holds (memory self.new) (after σ entry) }
+        ensures holds { (σ : State) → Holds (memory self.old) σ → Holds (memory self.new) (after σ entry.now) }
         ensures rest { RestKept (memory self.old) (memory self.new) }
     {
         self.put_entry(made, entry);

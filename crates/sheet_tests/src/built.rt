@@ -1,15 +1,14 @@
 //! A small screen, and what a record is told of it.
 
-use screen::NONE;
+use block::Record;
+use screen::{NONE, Refusal};
 use sheet::{Sheet, Table, Work};
 use std::test::Fail;
 
 /// A record's sixteen bytes.
 fn record(tag: u8, p: u8, r: u32, s: u32, t: u32) -> [u8; 16] {
-    let [r0, r1, r2, r3] = r.to_le_bytes();
-    let [s0, s1, s2, s3] = s.to_le_bytes();
-    let [t0, t1, t2, t3] = t.to_le_bytes();
-    [tag, p, 0, 0, r0, r1, r2, r3, s0, s1, s2, s3, t0, t1, t2, t3]
+    let q = 0;
+    Record { tag, p, q, r, s, t }.into()
 }
 
 /// Two Scopes side by side, each with a dependency and a declaration. The first holds an instruction,
@@ -36,39 +35,22 @@ fn screen() -> [[u8; 16]; 15] {
 
 /// Starts a sheet and builds the small screen on it.
 pub fn build(sheet: &mut Sheet<'_>, work: &mut Work<'_>) -> Result<(), Fail> {
-    if sheet.start(work).is_err() {
-        return Err(Fail::new("no sheet can be started"));
-    }
+    sheet.start(work)?;
     for record in screen() {
-        if sheet.take(work, record).is_err() {
-            return Err(Fail::new("a record of the small screen is refused"));
-        }
+        sheet.take(work, record)?;
     }
     Ok(())
 }
 
-/// The number that refuses a Close, or 0. Of the small screen that is 12, since only the body is open.
-pub fn told(sheet: &mut Sheet<'_>, work: &mut Work<'_>) -> u8 {
-    match sheet.take(work, record(12, 0, 0, 0, 0)) {
-        Ok(_) => 0,
-        Err(refusal) => refusal.number(),
-    }
+/// What a Close is refused with, none where it is accepted: a case expects no more. On the small screen that is `Place`, since only the body is open.
+pub fn told(sheet: &mut Sheet<'_>, work: &mut Work<'_>) -> Option<Refusal> {
+    sheet.take(work, record(12, 0, 0, 0, 0)).err()
 }
 
 /// A row of a table.
-pub fn row<T: Copy>(table: &Table<'_, T>, n: usize) -> Result<T, Fail> {
-    match table.rows.get(n) {
-        Some(row) => Ok(*row),
-        None => Err(Fail::new("the table has no such row")),
-    }
-}
-
-/// Writes a row of a table.
-pub fn write<T: Copy>(table: &mut Table<'_, T>, n: usize, row: T) -> Result<(), Fail> {
-    if n < table.rows.len() {
-        table.rows[n] = row;
-        Ok(())
-    } else {
-        Err(Fail::new("the table has no such row"))
-    }
+pub fn row<'a, T>(table: &'a mut Table<'_, T>, n: usize) -> Result<&'a mut T, Fail> {
+    table
+        .rows
+        .get_mut(n)
+        .ok_or_else(|| Fail::new("the table has no such row"))
 }

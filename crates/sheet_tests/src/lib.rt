@@ -1,4 +1,4 @@
-//! Tests of tables that a host damaged: each is refused with 6 exactly while it is not sound.
+//! Tests of tables that a host damaged: each is refused with `Unsound` exactly while it is not sound.
 
 #![tactic(auto)]
 

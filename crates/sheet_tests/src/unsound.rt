@@ -13,9 +13,9 @@ fn damaged_and_mended(rt: HostRuntime) -> Result<(), Fail> {
         mut work,
     } = memory.lend();
     build(&mut sheet, &mut work)?;
-    for (damage, number) in CASES {
+    for (damage, refusal) in CASES {
         damage.apply(&mut sheet)?;
-        assert_eq!(rt; told(&mut sheet, &mut work), number);
+        assert_eq!(rt; told(&mut sheet, &mut work), refusal);
     }
     Ok(())
 }

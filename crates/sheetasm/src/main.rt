@@ -8,15 +8,15 @@ use std::io;
 use std::io::{Read, Write};
 use std::process::ExitCode;
 use text::{TextError, read_text};
+use thiserror::Error;
 
-/// The program failed, and has said why.
-#[derive(Debug, Drop)]
-struct Failed;
-
-impl From<io::Error> for Failed {
-    fn from(_e: io::Error) -> Failed {
-        Failed
-    }
+/// Why no blocks are written. It keeps what is wrong as values, since a message may be longer than the 120 bytes that `anyhow` keeps of one.
+#[derive(Debug, Drop, Error)]
+enum Failure<'a> {
+    #[error(transparent)]
+    Input(#[from] io::Error),
+    #[error(transparent)]
+    Text(#[from] TextError<'a>),
 }
 
 /// The blocks of a text.
@@ -25,35 +25,29 @@ fn assemble(heap: Global, text: &str) -> Result<Vec<u8>, TextError<'_>> {
     Ok(fill_blocks(heap, records.as_slice())?)
 }
 
-/// All of standard input as text.
-fn input(rt: &HostRuntime) -> io::Result<String> {
+/// The blocks of all of standard input, whose text is kept here.
+fn blocks<'a>(rt: &HostRuntime, text: &'a mut String) -> Result<Vec<u8>, Failure<'a>> {
+    rt.stdin().read_to_string(text)?;
+    Ok(assemble(rt.alloc(), text.as_str())?)
+}
+
+/// Writes the blocks, or says on standard error why it could not. `failed` of crate `programs` says it for the other programs; this one stands
+/// on the text form alone, with no sheet.
+fn run(rt: &HostRuntime) -> io::Result<ExitCode> {
     let mut text = String::new(rt.alloc());
-    rt.stdin().read_to_string(&mut text)?;
-    Ok(text)
-}
-
-/// Writes the blocks, or says on standard error why it could not.
-fn report(rt: &HostRuntime) -> Result<(), Failed> {
-    let text = match input(rt) {
-        Ok(text) => text,
-        Err(error) => {
-            eprintln!(rt; "sheetasm: {error}")?;
-            return Err(Failed);
+    match blocks(rt, &mut text) {
+        Ok(bytes) => {
+            rt.stdout().write_all(bytes.as_slice())?;
+            Ok(ExitCode::SUCCESS)
         }
-    };
-    match assemble(rt.alloc(), text.as_str()) {
-        Ok(bytes) => Ok(rt.stdout().write_all(bytes.as_slice())?),
-        Err(error) => {
-            eprintln!(rt; "sheetasm: {error}")?;
-            Err(Failed)
+        Err(failure) => {
+            eprintln!(rt; "sheetasm: {failure}")?;
+            Ok(ExitCode::FAILURE)
         }
     }
 }
 
-// The runtime prints an error that main returns, and the program has said its own.
+// The runtime prints an error that main returns, and where writing fails there is nothing to say it on.
 fn main(rt: HostRuntime) -> ExitCode {
-    match report(&rt) {
-        Ok(()) => ExitCode::SUCCESS,
-        Err(Failed) => ExitCode::FAILURE,
-    }
+    run(&rt).unwrap_or(ExitCode::FAILURE)
 }

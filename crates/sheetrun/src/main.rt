@@ -2,35 +2,26 @@
 
 #![tactic(auto)]
 
-use programs::{Fault, run};
+use programs::{Fault, failed, run};
+use std::alloc::AllocError;
+use std::io::{BufWriter, Write};
 use std::process::ExitCode;
 
 /// Runs standard input. A block that is refused ends the run, and is printed as a record's refusal is.
-fn finish(rt: &HostRuntime) -> Result<(), Fault> {
-    match run(rt.alloc(), &mut rt.stdin(), &mut rt.stdout()) {
-        Err(Fault::Block(bad)) => {
-            println!(rt; "{bad}")?;
-            Ok(())
-        }
+fn run_input(rt: &HostRuntime) -> Result<(), Fault> {
+    let heap = rt.alloc();
+    let mut out = BufWriter::new(heap, rt.stdout()).map_err(|_| AllocError)?;
+    let ended = match run(heap, &mut rt.stdin(), &mut out) {
+        Err(Fault::Block(bad)) => Ok(writeln!(out, "{bad}")?),
         other => other,
-    }
+    };
+    out.flush()?;
+    ended
 }
 
-/// Runs standard input, and says on standard error why it could not.
-fn report(rt: &HostRuntime) -> Result<(), Fault> {
-    match finish(rt) {
-        Ok(()) => Ok(()),
-        Err(fault) => {
-            eprintln!(rt; "sheetrun: {fault}")?;
-            Err(fault)
-        }
-    }
-}
-
-// The runtime prints an error that main returns, and the program has said its own.
 fn main(rt: HostRuntime) -> ExitCode {
-    match report(&rt) {
+    match run_input(&rt) {
         Ok(()) => ExitCode::SUCCESS,
-        Err(_) => ExitCode::FAILURE,
+        Err(fault) => failed(&rt, "sheetrun", &fault),
     }
 }

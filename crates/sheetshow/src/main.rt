@@ -3,85 +3,66 @@
 
 #![tactic(auto)]
 
+mod shown;
 mod tree;
 
+use anyhow::{Result, bail};
+use block::SIZE;
 use encode::Page;
-use programs::Fault;
+use programs::{Fault, failed};
 use std::alloc::Global;
-use std::io::Read;
+use std::io::{BufWriter, Read, Write};
 use std::process::ExitCode;
 use std::{env, io};
 use text::Listing;
 use tree::show_tree;
 
-/// The bytes of a block.
-const SIZE: usize = 512;
-
-/// A block is not good, or the program could not read or write.
-#[derive(Debug, Drop)]
-struct Failed;
-
-impl From<io::Error> for Failed {
-    fn from(_e: io::Error) -> Failed {
-        Failed
-    }
-}
-
-/// Prints the lines of each block. Answers whether all of them are good.
-fn show_lines(rt: &HostRuntime, heap: Global, bytes: &[u8]) -> io::Result<bool> {
+/// Writes the lines of each block. Answers whether all of them are good.
+fn show_lines<W: Write>(out: &mut W, heap: Global, bytes: &[u8]) -> io::Result<bool> {
     let mut good = true;
     for (place, part) in bytes.chunks(SIZE).enumerate() {
         let page = Page::of(heap, part, place as u64)?;
-        rt.print(Listing(&page))?;
+        write!(out, "{}", Listing(&page))?;
         good &= page.is_good();
     }
     Ok(good)
 }
 
-/// Whether the tree is asked for, by the word `tree` after the program's name. Any other word is not known.
-fn wants_tree(rt: &HostRuntime) -> io::Result<Option<bool>> {
-    match env::args(rt)?.nth(1) {
-        Some(word) => Ok(if word.as_str() == "tree" {
-            Some(true)
-        } else {
-            None
-        }),
-        None => Ok(Some(false)),
+/// Whether the tree is asked for, by the word `tree` after the program's name. A parser of command lines would say of another word more than
+/// the program says.
+fn wants_tree(rt: &HostRuntime) -> Result<bool> {
+    match env::args(rt).map_err(Fault::Io)?.nth(1) {
+        None => Ok(false),
+        Some(word) if word.as_str() == "tree" => Ok(true),
+        Some(_) => bail!("the only word that may follow is tree"),
     }
 }
 
-/// Shows all of standard input. Answers whether the word was known and every block is good.
-fn run(rt: &HostRuntime) -> Result<bool, Fault> {
-    let Some(tree) = wants_tree(rt)? else {
-        eprintln!(rt; "sheetshow: the only word that may follow is tree")?;
-        return Ok(false);
-    };
+/// Shows blocks, and their tree where it is asked for. Answers whether every block is good.
+fn show(rt: &HostRuntime, tree: bool) -> Result<bool, Fault> {
     let heap = rt.alloc();
     let mut bytes = Vec::new(heap);
     rt.stdin().read_to_end(&mut bytes)?;
-    let good = show_lines(rt, heap, bytes.as_slice())?;
+    let mut out = BufWriter::new(heap, rt.stdout())?;
+    let good = show_lines(&mut out, heap, bytes.as_slice())?;
     if tree {
-        show_tree(rt, heap, bytes.as_slice())?;
+        show_tree(&mut out, heap, bytes.as_slice())?;
     }
+    out.flush()?;
     Ok(good)
 }
 
-/// Shows standard input, and says on standard error why it could not.
-fn report(rt: &HostRuntime) -> Result<(), Failed> {
-    match run(rt) {
-        Ok(true) => Ok(()),
-        Ok(false) => Err(Failed),
-        Err(fault) => {
-            eprintln!(rt; "sheetshow: {fault}")?;
-            Err(Failed)
-        }
-    }
+/// Shows standard input. Answers whether every block is good. Its errors are short, and `anyhow` keeps the first 120 bytes of a message.
+fn run(rt: &HostRuntime) -> Result<bool> {
+    let tree = wants_tree(rt)?;
+    Ok(show(rt, tree)?)
 }
 
-// The runtime prints an error that main returns, and the program has said its own.
 fn main(rt: HostRuntime) -> ExitCode {
-    match report(&rt) {
-        Ok(()) => ExitCode::SUCCESS,
-        Err(Failed) => ExitCode::FAILURE,
+    match run(&rt) {
+        Ok(true) => ExitCode::SUCCESS,
+        // its comment has said what is wrong
+        Ok(false) => ExitCode::FAILURE,
+        Err(error) => failed(&rt, "sheetshow", &error),
     }
 }

@@ -1,35 +1,26 @@
 //! A line of text as its record.
-
-ghost use Rattle.std.specs.Prelude.{◌<◌, IfSome};
+//!
+//! The words that a record or a value begins with are closed lists, each read in one `match`: a table of closures would list them again. The
+//! record has its tag and its kind as numbers, since that is how a block has them. A function that goes on with a record that is begun
+//! takes it beside the words, as the words outlive each record.
 
 use crate::names::{NODES, PATHS, RULES, TERMINALS, TYPES, VALUES};
-use crate::show::NONE;
+use crate::rows::{blank, field_of};
 use crate::words::{Complaint, Expected, Words};
-use block::Record;
-use encode::join;
+use block::{RECORD, Record};
+use hex::FromHex;
 
-/// A record of this tag with no field.
-fn blank(tag: u8) -> Record {
-    Record {
-        tag,
-        p: 0,
-        q: 0,
-        r: 0,
-        s: 0,
-        t: 0,
-    }
-}
-
-/// The sixteen bytes of a line's record, or none where the line has no word.
-pub fn read_line(line: &str) -> Result<Option<[u8; 16]>, Complaint<'_>> {
-    let mut words = Words::of(line);
+/// The sixteen bytes of a line's record, or none where the line has no word. It is no `FromStr`, as an error of that cannot show the word
+/// of the line that it is about.
+pub fn read_line(line: &str) -> Result<Option<[u8; RECORD]>, Complaint<'_>> {
+    let mut words = Words::from(line);
     let Some(first) = words.next() else {
         return Ok(None);
     };
     let bytes = if first == "raw" {
         read_raw(&mut words)?
     } else {
-        join(read_record(first, &mut words)?)
+        read_record(first, &mut words)?.into()
     };
     words.end()?;
     Ok(Some(bytes))
@@ -73,8 +64,8 @@ fn read_numbers<'a>(first: &'a str, words: &mut Words<'a>) -> Result<Record, Com
             r: words.number()?,
             ..blank(15)
         }),
-        _ => Err(Complaint {
-            found: Some(first),
+        _ => Err(Complaint::Unexpected {
+            found: first,
             expected: Expected::Record,
         }),
     }
@@ -92,14 +83,16 @@ fn read_pair<'a>(
     Ok(Record { r, s, ..blank(tag) })
 }
 
+/// A type: its kind and its shape, 0 where the line has none.
 fn read_type<'a>(words: &mut Words<'a>) -> Result<Record, Complaint<'a>> {
-    let p = words.one_of(&TYPES, Expected::TypeKind)? as u8;
+    let p = words.kind(TYPES)? as u8;
     let r = words.last_number()?.unwrap_or(0);
     Ok(Record { p, r, ..blank(1) })
 }
 
+/// A path entry: its kind and its bits, and whether it is optional.
 fn read_path<'a>(words: &mut Words<'a>) -> Result<Record, Complaint<'a>> {
-    let q = words.one_of(&PATHS, Expected::PathKind)? as u16;
+    let q = words.kind(PATHS)? as u16;
     let r = words.number()?;
     let s = words.number()?;
     let p = u8::from(words.goes_on("optional")?);
@@ -112,6 +105,7 @@ fn read_path<'a>(words: &mut Words<'a>) -> Result<Record, Complaint<'a>> {
     })
 }
 
+/// A dependency: its identifier, and its path where it has one.
 fn read_dependency<'a>(words: &mut Words<'a>) -> Result<Record, Complaint<'a>> {
     let mut x = Record {
         r: words.number()?,
@@ -125,11 +119,18 @@ fn read_dependency<'a>(words: &mut Words<'a>) -> Result<Record, Complaint<'a>> {
     Ok(x)
 }
 
+/// A value: its kind and what that kind has.
 fn read_value<'a>(words: &mut Words<'a>) -> Result<Record, Complaint<'a>> {
-    let p = words.one_of(&VALUES, Expected::ValueKind)? as u8;
+    let p = words.kind(VALUES)? as u8;
     let x = Record { p, ..blank(9) };
     match p {
-        0..=9 => read_reads(Record { s: NONE, ..x }, words),
+        0..=9 => read_reads(
+            Record {
+                s: field_of(None),
+                ..x
+            },
+            words,
+        ),
         10 | 11 => read_reads(
             Record {
                 s: words.number()?,
@@ -175,7 +176,7 @@ fn read_reads<'a>(x: Record, words: &mut Words<'a>) -> Result<Record, Complaint<
                 ..x
             })
         }
-        found => Err(Complaint {
+        Some(found) => Err(Complaint::Unexpected {
             found,
             expected: Expected::Reads,
         }),
@@ -196,15 +197,17 @@ fn read_inside<'a>(
     Ok(Record { r, s, t, ..x })
 }
 
-/// This word and the row after it, or none where the line ends.
+/// The field of the row after this word, or of none where the line ends.
 fn read_row<'a>(word: &'static str, words: &mut Words<'a>) -> Result<u32, Complaint<'a>> {
-    if words.goes_on(word)? {
-        words.number()
+    let row = if words.goes_on(word)? {
+        Some(words.number()?)
     } else {
-        Ok(NONE)
-    }
+        None
+    };
+    Ok(field_of(row))
 }
 
+/// An instruction: its order, its value, and the identifier that it is for where there is one.
 fn read_add<'a>(words: &mut Words<'a>) -> Result<Record, Complaint<'a>> {
     let x = read_pair(10, "value", words)?;
     Ok(Record {
@@ -213,8 +216,9 @@ fn read_add<'a>(words: &mut Words<'a>) -> Result<Record, Complaint<'a>> {
     })
 }
 
+/// What opens a node.
 fn read_open<'a>(words: &mut Words<'a>) -> Result<Record, Complaint<'a>> {
-    let p = words.one_of(&NODES, Expected::Node)? as u8;
+    let p = words.kind(NODES)? as u8;
     let x = Record { p, ..blank(11) };
     match p {
         0 => read_terminal(x, words),
@@ -226,51 +230,23 @@ fn read_open<'a>(words: &mut Words<'a>) -> Result<Record, Complaint<'a>> {
     }
 }
 
+/// A terminal: its kind, its order, and the value that it tests where there is one.
 fn read_terminal<'a>(x: Record, words: &mut Words<'a>) -> Result<Record, Complaint<'a>> {
-    let q = words.one_of(&TERMINALS, Expected::TerminalKind)? as u16;
+    let q = words.kind(TERMINALS)? as u16;
     let r = words.number()?;
     let s = read_row("value", words)?;
     Ok(Record { q, r, s, ..x })
 }
 
+/// A merge by a rule.
 fn read_merge<'a>(words: &mut Words<'a>) -> Result<Record, Complaint<'a>> {
-    let p = words.one_of(&RULES, Expected::Rule)? as u8;
+    let p = words.kind(RULES)? as u8;
     Ok(Record { p, ..blank(13) })
 }
 
 /// Sixteen bytes in hexadecimal digits.
-fn read_raw<'a>(words: &mut Words<'a>) -> Result<[u8; 16], Complaint<'a>> {
-    let found = words.next();
-    let complaint = Complaint {
-        found,
-        expected: Expected::Hex,
-    };
-    let Some(digits) = found else {
-        return Err(complaint);
-    };
-    hex(digits.as_bytes()).ok_or(complaint)
-}
-
-/// The bytes that 32 hexadecimal digits write.
-fn hex(digits: &[u8]) -> Option<[u8; 16]> {
-    if digits.len() != 32 {
-        return None;
-    }
-    let mut bytes = [0; 16];
-    for i in 0..16 {
-        bytes[i] = 16 * nibble(digits[2 * i])? + nibble(digits[2 * i + 1])?;
-    }
-    Some(bytes)
-}
-
-/// The value of a hexadecimal digit.
-fn nibble(digit: u8) -> Option<u8>
-    ensures { IfSome result (λ n. n < 16) }
-{
-    match digit {
-        b'0'..=b'9' => Some(digit - b'0'),
-        b'a'..=b'f' => Some(digit - b'a' + 10),
-        b'A'..=b'F' => Some(digit - b'A' + 10),
-        _ => None,
-    }
+fn read_raw<'a>(words: &mut Words<'a>) -> Result<[u8; RECORD], Complaint<'a>> {
+    let expected = Expected::Hex;
+    let found = words.some(expected)?;
+    FromHex::from_hex(found).map_err(|_| Complaint::Unexpected { found, expected })
 }

@@ -1,75 +1,47 @@
 //! The words of a line, and what is said of one that was not expected.
 
-ghost use Rattle.std.specs.Prelude.{◌<◌, length, IfOk};
+ghost use Rattle.std.specs.Prelude.{◌≡◌, ℕ, ◌<◌, ◌==◌, List, length, Some, None, IfOk, IfErr};
+ghost use Rattle.std.specs.Borrow.{Bor};
+ghost use Rattle.std.specs.Iterator.{at_most};
+ghost use Rattle.std.specs.List.{before_first, position};
+ghost use Rattle.std.specs.Str.{bytes_eq};
+ghost use Rattle.std.specs.Str.Iter.{split_whitespace_rest, split_whitespace_steps};
 
-use crate::names::place_of;
-use std::fmt;
-use std::str::SplitWhitespace;
+use crate::names::Kinds;
+use std::str::{FromStr, SplitWhitespace};
+use thiserror::Error;
 
 /// What a line should have had next.
-#[derive(Clone, Copy, Debug, PartialEq, Eq)]
+#[derive(Clone, Copy, Debug, PartialEq, Eq, Error)]
 pub enum Expected {
     /// The first word of a record.
+    #[error("a record, as type, identifier, path, scope, depend, declare, reassign, read, value, add, open, close, merge, list, shape or raw")]
     Record,
+    #[error("the word {0}")]
     Word(&'static str),
+    #[error("the word {0} or the end of the line")]
     WordOrEnd(&'static str),
+    #[error("the end of the line")]
     End,
-    Number,
-    ShortNumber,
-    TypeKind,
-    PathKind,
-    ValueKind,
-    Node,
-    TerminalKind,
-    Rule,
+    /// A number up to this one.
+    #[error("a number from 0 to {0}")]
+    Number(u32),
+    /// The name of one of these kinds.
+    #[error("{0}")]
+    Kind(Kinds),
+    #[error("the word read, the word reads or the end of the line")]
     Reads,
+    #[error("32 hexadecimal digits")]
     Hex,
 }
 
-/// A word that was not expected, or none where the line ends too early.
-#[derive(Clone, Copy, Debug, PartialEq, Eq)]
-pub struct Complaint<'a> {
-    pub found: Option<&'a str>,
-    pub expected: Expected,
-}
-
-impl fmt::Display for Expected {
-    fn fmt<W: fmt::Write>(&self, f: &mut fmt::Formatter<W>) -> fmt::Result {
-        match self {
-            Expected::Record => f.write_str(
-                "a record, as type, identifier, path, scope, depend, declare, reassign, read, value, add, open, close, merge, list, shape or raw",
-            ),
-            Expected::Word(word) => write!(f, "the word {word}"),
-            Expected::WordOrEnd(word) => write!(f, "the word {word} or the end of the line"),
-            Expected::End => f.write_str("the end of the line"),
-            Expected::Number => f.write_str("a number from 0 to 4294967295"),
-            Expected::ShortNumber => f.write_str("a number from 0 to 65535"),
-            Expected::TypeKind => f.write_str(
-                "primitive, function, object, var, poly, phi, property or objectMethod",
-            ),
-            Expected::PathKind => f.write_str("name or number"),
-            Expected::ValueKind => f.write_str(
-                "a kind of value, as other, binary, computedLoad, jsxText, loadGlobal, loadLocal, primitive, propertyLoad, template, unary, storeConst, storeLocal, logical, conditional, sequence, optional or inner",
-            ),
-            Expected::Node => f.write_str("terminal, arm, scope or pruned"),
-            Expected::TerminalKind => f.write_str(
-                "break, continue, return, throw, switch, doWhile, while, for, forOf, forIn, if, label or try",
-            ),
-            Expected::Rule => f.write_str("list or both"),
-            Expected::Reads => f.write_str("the word read, the word reads or the end of the line"),
-            Expected::Hex => f.write_str("32 hexadecimal digits"),
-        }
-    }
-}
-
-impl fmt::Display for Complaint<'_> {
-    fn fmt<W: fmt::Write>(&self, f: &mut fmt::Formatter<W>) -> fmt::Result {
-        let expected = self.expected;
-        match self.found {
-            Some(word) => write!(f, "{word} is not understood, expected {expected}"),
-            None => write!(f, "the line ends too early, expected {expected}"),
-        }
-    }
+/// What is wrong with a line.
+#[derive(Clone, Copy, Debug, PartialEq, Eq, Error)]
+pub enum Complaint<'a> {
+    #[error("{found} is not understood, expected {expected}")]
+    Unexpected { found: &'a str, expected: Expected },
+    #[error("the line ends too early, expected {expected}")]
+    TooShort { expected: Expected },
 }
 
 /// The words of a line that are still to be read.
@@ -78,32 +50,47 @@ pub struct Words<'a> {
     rest: SplitWhitespace<'a>,
 }
 
-impl<'a> Words<'a> {
-    /// The words of a line, without its comment.
-    pub fn of(line: &'a str) -> Words<'a> {
-        let text = match line.split_once('#') {
-            Some((before, _)) => before,
-            None => line,
-        };
+impl<'a> From<&'a str> for Words<'a> {
+    // The words of a line, without its comment: what stands before the first `#`.
+    ghost from_gives = { λ line words. split_whitespace_rest words.rest ≡ before_first (λ byte. byte == 35) line.now };
+
+    fn from(line: &'a str) -> Words<'a> {
+        let text = line.split_once('#').map_or(line, |(text, _)| text);
         Words {
             rest: text.split_whitespace(),
         }
     }
+}
 
-    /// The next word, or none at the line's end.
-    pub fn next(&mut self) -> Option<&'a str> {
+impl<'a> Iterator for Words<'a> {
+    type Item = &'a str;
+
+    ghost next_gives = { λ before word after. split_whitespace_steps before.rest word after.rest };
+
+    ghost remaining = { λ words. at_most (length (split_whitespace_rest words.rest)) };
+
+    fn next(&mut self) -> Option<&'a str> {
         self.rest.next()
     }
+}
 
+/// A word as a value of a type.
+fn parsed<'a, T: FromStr>(found: &'a str, expected: Expected) -> Result<T, Complaint<'a>>
+where
+    T::Err: Drop,
+{
+    found
+        .parse()
+        .map_err(|_| Complaint::Unexpected { found, expected })
+}
+
+impl<'a> Words<'a> {
     /// The next word, which has to be there.
-    fn some(&mut self, expected: Expected) -> Result<&'a str, Complaint<'a>> {
-        match self.next() {
-            Some(word) => Ok(word),
-            None => Err(Complaint {
-                found: None,
-                expected,
-            }),
-        }
+    pub fn some(&mut self, expected: Expected) -> Result<&'a str, Complaint<'a>>
+        ensures found { IfOk result (λ word. split_whitespace_steps self.old.rest (Some word) self.new.rest) }
+        ensures ended { IfErr result (λ complaint. (complaint ≡ Complaint.TooShort expected) × split_whitespace_steps self.old.rest None self.new.rest) }
+    {
+        self.next().ok_or(Complaint::TooShort { expected })
     }
 
     /// This word.
@@ -113,10 +100,7 @@ impl<'a> Words<'a> {
         if found == word {
             Ok(())
         } else {
-            Err(Complaint {
-                found: Some(found),
-                expected,
-            })
+            Err(Complaint::Unexpected { found, expected })
         }
     }
 
@@ -125,8 +109,8 @@ impl<'a> Words<'a> {
         match self.next() {
             None => Ok(false),
             Some(found) if found == word => Ok(true),
-            Some(found) => Err(Complaint {
-                found: Some(found),
+            Some(found) => Err(Complaint::Unexpected {
+                found,
                 expected: Expected::WordOrEnd(word),
             }),
         }
@@ -136,7 +120,7 @@ impl<'a> Words<'a> {
     pub fn end(&mut self) -> Result<(), Complaint<'a>> {
         match self.next() {
             None => Ok(()),
-            found => Err(Complaint {
+            Some(found) => Err(Complaint::Unexpected {
                 found,
                 expected: Expected::End,
             }),
@@ -145,53 +129,32 @@ impl<'a> Words<'a> {
 
     /// A number of four bytes.
     pub fn number(&mut self) -> Result<u32, Complaint<'a>> {
-        let found = self.some(Expected::Number)?;
-        match found.parse::<u32>() {
-            Ok(number) => Ok(number),
-            Err(_) => Err(Complaint {
-                found: Some(found),
-                expected: Expected::Number,
-            }),
-        }
+        let expected = Expected::Number(u32::MAX);
+        parsed(self.some(expected)?, expected)
     }
 
     /// A number of four bytes, or none where the line ends.
     pub fn last_number(&mut self) -> Result<Option<u32>, Complaint<'a>> {
-        match self.next() {
-            None => Ok(None),
-            Some(found) => match found.parse::<u32>() {
-                Ok(number) => Ok(Some(number)),
-                Err(_) => Err(Complaint {
-                    found: Some(found),
-                    expected: Expected::Number,
-                }),
-            },
-        }
+        self.next()
+            .map(|found| parsed(found, Expected::Number(u32::MAX)))
+            .transpose()
     }
 
-    /// A number of two bytes.
+    /// A number of two bytes. It is `number` but for its type and the greatest of it: generic over both, it would ask each caller for them.
     pub fn short_number(&mut self) -> Result<u16, Complaint<'a>> {
-        let found = self.some(Expected::ShortNumber)?;
-        match found.parse::<u16>() {
-            Ok(number) => Ok(number),
-            Err(_) => Err(Complaint {
-                found: Some(found),
-                expected: Expected::ShortNumber,
-            }),
-        }
+        let expected = Expected::Number(u16::MAX.into());
+        parsed(self.some(expected)?, expected)
     }
 
-    /// One of these names, by its place.
-    pub fn one_of(&mut self, names: &[&str], expected: Expected) -> Result<usize, Complaint<'a>>
-        ensures { IfOk result (λ i. i < length names.now) }
+    /// The name of one of these kinds, as its number.
+    pub fn kind(&mut self, kinds: Kinds) -> Result<usize, Complaint<'a>>
+        ensures below { IfOk result (λ number. number < length kinds.names.now) }
+        ensures named { IfOk result (λ number. (word : Bor (List ℕ)) × split_whitespace_steps self.old.rest (Some word) self.new.rest × (position (λ known. bytes_eq known.now word.now) kinds.names.now ≡ Some number)) }
     {
+        let expected = Expected::Kind(kinds);
         let found = self.some(expected)?;
-        match place_of(names, found) {
-            Some(place) => Ok(place),
-            None => Err(Complaint {
-                found: Some(found),
-                expected,
-            }),
-        }
+        kinds
+            .number(found)
+            .ok_or(Complaint::Unexpected { found, expected })
     }
 }

@@ -1,7 +1,6 @@
 //! Every form of a record, as the text that is written for it and the bytes that it stands for.
 
-use block::Record;
-use encode::join;
+use block::{RECORD, Record};
 use std::alloc::Global;
 use std::test::Fail;
 use text::{Line, read_line};
@@ -12,7 +11,7 @@ const NONE: u32 = 4294967295;
 /// A text is read as these fields, and is what is written for them.
 fn both_ways(heap: Global, line: &str, tag: u8, p: u8, q: u16, rest: [u32; 3]) -> Result<(), Fail> {
     let [r, s, t] = rest;
-    let bytes = join(Record { tag, p, q, r, s, t });
+    let bytes = <[u8; RECORD]>::from(Record { tag, p, q, r, s, t });
     let read = read_line(line)?.ok_or("no record")?;
     if read != bytes {
         return Err(Fail::new("the text is read as other bytes"));

@@ -10,11 +10,7 @@ use text::{Listing, read_text};
 fn closes(heap: Global, count: usize) -> Result<Vec<[u8; 16]>, Fail> {
     let mut record = [0; 16];
     record[0] = 12;
-    let mut records = Vec::new(heap);
-    for _ in 0..count {
-        records.push(record)?;
-    }
-    Ok(records)
+    Ok(vec![in heap; record; count]?)
 }
 
 /// The text of the block that begins with these bytes.
@@ -64,9 +60,7 @@ fn a_block_written_again(rt: HostRuntime) -> Result<(), Fail> {
     let mut bytes = [0; 512];
     fill_block(closes(heap, 3)?.as_slice(), 0, &mut bytes);
     let unchecked = Unchecked::new(&bytes, 0).ok_or("no block")?;
-    let Ok(block) = unchecked.check() else {
-        return Err(Fail::new("the block is not good"));
-    };
+    let block = unchecked.check()?;
     let mut again = [0; 512];
     let written = round_trip(heap, &block, 0, &mut again);
     let records = records_of(heap, &block);

@@ -1,6 +1,6 @@
 //! A walk over the tree that tests each link before it follows it.
 
-ghost use Rattle.std.specs.Prelude.{◌≡◌, ◌+◌, ◌<◌, ◌≤◌, true, false, length, ◌≢◌};
+ghost use Rattle.std.specs.Prelude.{◌≡◌, ◌+◌, ◌<◌, ◌≤◌, true, length, Decides, MatchOption, ◌≢◌};
 ghost use Rattle.screen.specs.declared.node.Node.TheVariants.{Body};
 ghost use Rattle.screen.specs.Entries.{node_of};
 ghost use Rattle.screen.specs.Forest.{Forest, body, shallow, size};
@@ -10,9 +10,13 @@ ghost use Rattle.sheet.specs.Seats.{Fit, entered, roomy, returned};
 use crate::rows::NodeRow;
 use screen::{NONE, Node};
 
+/// The lowest level below the body at which a node may be held that Add did not make.
+const DEEPEST: u32 = 63;
+
 /// Where the walk is: a node, its child to enter next and the one before that, the node's level below the body,
-/// and how many nodes may yet be entered.
-#[derive(Clone, Copy)]
+/// and how many nodes may yet be entered. `child` and `prev` are links as the rows have them, none among them: a step copies
+/// them from the rows and compares them with the rows' links.
+#[derive(Clone, Copy, Debug, PartialEq, Eq)]
 pub struct Seat {
     pub node: u32,
     pub child: u32,
@@ -22,17 +26,16 @@ pub struct Seat {
 }
 
 /// Whether a node may be held at this level. Only Add goes one level further down.
-fn has_room(level: u32, node: Node) -> bool
-    ensures { result ≡ roomy level node }
+fn has_room(level: u32, node: &Node) -> bool
+    ensures { result ≡ roomy level node.now }
 {
-    level < 63 || node.is_add()
+    level < DEEPEST || node.is_add()
 }
 
 /// Whether the next step can be taken: into a child that names its parent, or out of a node at its last child.
 fn fits(nodes: &[NodeRow], at: Seat) -> bool
     requires { (at.node < length nodes.now) × (length nodes.now ≤ 1024) }
-    ensures yes { result ≡ true → Fit nodes.now at }
-    ensures no { result ≡ false → Fit nodes.now at → ⊥ }
+    ensures { Decides result (Fit nodes.now at) }
 {
     if at.child == NONE {
         return nodes[at.node as usize].last == at.prev;
@@ -41,7 +44,7 @@ fn fits(nodes: &[NodeRow], at: Seat) -> bool
         return false;
     }
     let row = nodes[at.child as usize];
-    row.parent == at.node && has_room(at.level, Node::made_by(row.made))
+    row.parent == at.node && has_room(at.level, &Node::from(row.made))
 }
 
 /// The place after the next step.
@@ -73,16 +76,15 @@ fn on(nodes: &[NodeRow], at: Seat) -> Seat
     }
 }
 
-/// How many nodes the tree has, or 0 where the links are not those of a tree.
-pub(crate) fn tree_size(nodes: &[NodeRow]) -> usize
+/// How many nodes the tree has; none where the links are not those of a tree.
+pub(crate) fn tree_size(nodes: &[NodeRow]) -> Option<usize>
     requires few { (0 < length nodes.now) × (length nodes.now ≤ 1024) }
     requires body { node_of (row nodes.now 0).made ≡ Body }
-    ensures yes { 0 < result → (f : Forest) × Links nodes.now 4294967295 (body f) × (shallow 63 f ≡ true) × (size (body f) ≡ result) }
-    ensures no { (f : Forest) → Links nodes.now 4294967295 (body f) → shallow 63 f ≡ true → 0 < result }
+    ensures { MatchOption result ((f : Forest) → Links nodes.now 4294967295 (body f) → shallow 63 f ≡ true → ⊥) (λ n. (f : Forest) × Links nodes.now 4294967295 (body f) × (shallow 63 f ≡ true) × (size (body f) ≡ n)) }
 {
     let body = nodes[0];
     if body.parent != NONE || body.next != NONE {
-        return 0;
+        return None;
     }
     let mut at = Seat {
         node: 0,
@@ -91,11 +93,12 @@ pub(crate) fn tree_size(nodes: &[NodeRow]) -> usize
         level: 0,
         left: nodes.len() - 1,
     };
+    // The walk goes by the rows' links and keeps no stack of nodes, as an iterator over them would.
     while fits(nodes, at) {
         if at.child == NONE && at.node == 0 {
-            return nodes.len() - at.left;
+            return Some(nodes.len() - at.left);
         }
         at = on(nodes, at);
     }
-    0
+    None
 }

@@ -1,7 +1,8 @@
-use Rattle.std.proofs.Common.{◌≡◌, ◌+◌, ◌-◌, ◌*◌, ◌≤◌, ◌++◌, length, take, drop, replicate, sym, ap, ◌∙◌, arith, length-take}
+use Rattle.std.proofs.Common.{◌≡◌, ◌+◌, ◌-◌, ◌*◌, ◌≤◌, [], ◌++◌, length, take, drop, replicate, sym, ap, ◌∙◌, arith, length-take}
 use Rattle.block.specs.Block.{fault_of, records_of, weighed, check_of}
-use Rattle.encode.specs.Filled.{Sixteens, in_row, two_bytes, four_bytes, summed_of, block_of}
-use Rattle.encode.proofs.Rows.{told_sixteens, sixteens_take}
+use Rattle.block.specs.Bytes.{two_bytes, four_bytes}
+use Rattle.encode.specs.Filled.{Sixteens, in_row, summed_of, block_of}
+use Rattle.std.proofs.lemmas.List.Elements.{All-from_get_or, All-take}
 use Rattle.encode.proofs.Filling.{body, put_number, put_count, put_check, good_block, records_in_lem, check_before}
 use Rattle.encode.proofs.fill.fill_block.Goals as goal
 
@@ -11,7 +12,7 @@ returns c =
     let number = c.args.number in
     let count = c.put_records-count.result in
     let check = c.check_of-check.result in
-    let h : Sixteens rs = sixteens_take 31 c.args.records.now (told_sixteens c.args.records.now c.told-records) in
+    let h : Sixteens rs = All-take (λ r. length r ≡ 16) 31 c.args.records.now (All-from_get_or (λ r. length r ≡ 16) c.args.records.now [] c.told-records) in
     let n : count ≡ length rs = c.put_records-count.ensures.taken ∙ sym (length-take 31 c.args.records.now) in
     let few : length rs ≤ 31 = omega (arith, length-take 31 c.args.records.now) in
     let b0 : c.put_records-count.new.bytes ≡ in_row rs ++ replicate (512 - 16 * length rs) 0 =

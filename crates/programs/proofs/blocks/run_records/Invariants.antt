@@ -3,5 +3,5 @@ use Rattle.sheet.specs.Kept.{Ready}
 use Rattle.programs.proofs.blocks.run_records.Given as goal
 
 -- the tables hold a sheet
-abbrev pub invariant-loop-at : goal.invariant-loop-at
-invariant-loop-at g l = Ready (memory l.sheet) (work_memory l.work)
+abbrev pub invariant-loop-record : goal.invariant-loop-record
+invariant-loop-record g l = goal.F-IsAlwaysCallable g l.each × Ready (memory l.sheet) (work_memory l.work)

@@ -1,25 +1,15 @@
-use Rattle.std.proofs.Common.{true, false, sym, ◌∙◌}
-use Rattle.std.proofs.lemmas.List.{at_drop_all}
-use Rattle.screen.specs.Rules.{deps_of}
-use Rattle.screen.specs.Alike.{covered}
-use Rattle.rules.proofs.Likes.{covered_next}
+use Rattle.std.proofs.Common.{sym, ◌∙◌, rules, tests}
+use Rattle.std.proofs.lemmas.Iterator.{YieldsList-from_slice}
+use Rattle.std.proofs.lemmas.Iterator.Search.{all_from_yields_List}
+use Rattle.std.proofs.lemmas.List.Folds.{list_all-map}
+use Rattle.screen.specs.Rules.{Dep}
+use Rattle.screen.specs.Alike.{found}
+use Rattle.rules.specs.Named.{dep_in, deps_in}
 use Rattle.rules.proofs.alike.is_covered.Goals as goal
-
-pub returns-then-not-is_found : goal.returns-then-not-is_found
-returns-then-not-is_found g c =
-    let is = c.args.identifiers.now in
-    let ps = c.args.paths.now in
-    sym (c.loop-x.invariant ∙ covered_next (g.R.Alike.like c.args.rule.now) is ps c.args.a.now (deps_of is ps c.args.b.now) c.loop-x.x-index false c.loop-x-test.true (cc))
-
-pub loop-x-preserved : goal.loop-x-preserved
-loop-x-preserved g c =
-    let is = c.args.identifiers.now in
-    let ps = c.args.paths.now in
-    c.loop-x.invariant ∙ covered_next (g.R.Alike.like c.args.rule.now) is ps c.args.a.now (deps_of is ps c.args.b.now) c.loop-x.x-index true c.loop-x-test.true (cc)
 
 pub returns : goal.returns
 returns g c =
-    let is = c.args.identifiers.now in
-    let ps = c.args.paths.now in
-    let e = at_drop_all (λ l. covered (g.R.Alike.like c.args.rule.now) (deps_of is ps l) (deps_of is ps c.args.b.now)) c.args.a.now c.loop-x.x-index c.loop-x-test.false in
-    cc
+    let is_there = λ (x : Dep). found (g.R.Alike.like c.args.rule.now) x (deps_in c.args.entries c.args.b.now) in
+    let dep = dep_in c.args.entries in
+    let xs = c.args.a.now in
+    all_from_yields_List (λ x. is_there (dep x)) _ _ _ c.all.ensures.ran (YieldsList-from_slice xs cc) (λ x b q h. search (rules, tests)) ∙ sym (list_all-map is_there dep xs)

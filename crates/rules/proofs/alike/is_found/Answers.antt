@@ -1,25 +1,14 @@
-use Rattle.std.proofs.Common.{true, false, sym, ◌∙◌}
-use Rattle.std.proofs.lemmas.List.{at_drop_all}
-use Rattle.screen.specs.Rules.{dep_of, deps_of}
-use Rattle.screen.specs.Alike.{found}
-use Rattle.rules.proofs.Likes.{found_more}
+use Rattle.std.proofs.Common.{sym, ◌∙◌, rules, tests}
+use Rattle.std.proofs.lemmas.Iterator.{YieldsList-from_slice}
+use Rattle.std.proofs.lemmas.Iterator.Search.{any_from_yields_List}
+use Rattle.screen.specs.Alike.{alike}
+use Rattle.rules.specs.Named.{dep_in}
+use Rattle.rules.proofs.Likes.{any_map}
 use Rattle.rules.proofs.alike.is_found.Goals as goal
-
-pub returns-then-are_alike : goal.returns-then-are_alike
-returns-then-are_alike g c =
-    let is = c.args.identifiers.now in
-    let ps = c.args.paths.now in
-    sym (c.loop-y.invariant ∙ found_more (g.R.Alike.like c.args.rule.now) is ps (dep_of is ps c.args.x) c.args.list.now c.loop-y.y-index true c.loop-y-test.true (cc))
-
-pub loop-y-preserved : goal.loop-y-preserved
-loop-y-preserved g c =
-    let is = c.args.identifiers.now in
-    let ps = c.args.paths.now in
-    c.loop-y.invariant ∙ found_more (g.R.Alike.like c.args.rule.now) is ps (dep_of is ps c.args.x) c.args.list.now c.loop-y.y-index false c.loop-y-test.true (cc)
 
 pub returns : goal.returns
 returns g c =
-    let is = c.args.identifiers.now in
-    let ps = c.args.paths.now in
-    let e = at_drop_all (λ l. found (g.R.Alike.like c.args.rule.now) (dep_of is ps c.args.x) (deps_of is ps l)) c.args.list.now c.loop-y.y-index c.loop-y-test.false in
-    cc
+    let is_this = alike (g.R.Alike.like c.args.rule.now) (dep_in c.args.entries c.args.x.now) in
+    let dep = dep_in c.args.entries in
+    let ys = c.args.list.now in
+    any_from_yields_List (λ y. is_this (dep y)) _ _ _ c.any.ensures.ran (YieldsList-from_slice ys cc) (λ y b q h. search (rules, tests)) ∙ sym (any_map is_this dep ys)

@@ -1,4 +1,4 @@
-use Rattle.std.proofs.Common.{◌≡◌, List, length, sym, ap, ◌∙◌, subst, arith}
+use Rattle.std.proofs.Common.{◌≡◌, ℕ, List, length, sym, ap, ◌∙◌, subst, arith}
 use Rattle.sheet.specs.declared.rows.NodeRow.{NodeRow}
 use Rattle.sheet.specs.Planted.{Planted}
 use Rattle.screen.specs.Entries.{node_of}
@@ -17,6 +17,8 @@ bounds-nodes-at c =
 pub returns : goal.returns
 returns c σ h =
     let ns = items (memory c.args.s.now).nodes in (
-      c.open_count.ensures _ σ.tree σ.opened (subst (λ (xs : List NodeRow). Planted xs (statuses σ.scopes) c.args.s.now.innermost σ.tree σ.opened) (sym c.put-nodes.ensures) h.planted),
-      c.made_by.ensures ∙ ap (λ xs. node_of (row xs c.args.s.now.innermost).made) c.put-nodes.ensures ∙ innermost_node ns (statuses σ.scopes) c.args.s.now.innermost σ.tree σ.opened h.planted,
+      c.open_count.ensures _ σ.tree σ.opened
+          (subst (λ (k : ℕ). Planted c.put-nodes.result.now (statuses σ.scopes) k σ.tree σ.opened) (sym c.from-2.ensures)
+          (subst (λ (xs : List NodeRow). Planted xs (statuses σ.scopes) c.args.s.now.innermost σ.tree σ.opened) (sym c.put-nodes.ensures) h.planted)),
+      c.from.ensures ∙ ap (λ xs. node_of (row xs c.args.s.now.innermost).made) c.put-nodes.ensures ∙ innermost_node ns (statuses σ.scopes) c.args.s.now.innermost σ.tree σ.opened h.planted,
     )

@@ -1,30 +1,25 @@
-use Rattle.std.proofs.Common.{◌+◌, length, take, drop, ap, ◌∙◌}
-use Rattle.sheet.proofs.Appending.{holder_within, holder_last, append_rows, append_rest, append_long}
+use Rattle.std.proofs.Common.{◌≡◌, ◌+◌, take, drop, set, ap, ◌∙◌}
+use Rattle.sheet.specs.Appended.{attached, fresh}
+use Rattle.sheet.proofs.Appending.{append_rows, append_rest}
 use Rattle.sheet.proofs.tree.append.Goals as goal
 
-pub attach-requires : goal.attach-requires
-attach-requires c =
+pub returns-clause-rows : goal.returns-clause-rows
+returns-clause-rows c =
     let rows = c.args.nodes.now.rows.now in
     let n = c.args.nodes.now.count in
     let p = c.args.parent in
     let wide = c.push.new.self.rows.now in
-    record {
-      within = holder_within rows n p c.args.made c.requires.room c.requires.within c.requires.last wide c.push.ensures.rows;
-      last = holder_last rows n p c.args.made c.requires.room c.requires.within c.requires.last wide c.push.ensures.rows;
-    }
+    let wrote : wide ≡ set rows n (fresh c.args.made p) = c.push.ensures.rows ∙ ap (set rows n) (c.new.ensures ∙ ap (fresh c.args.made) c.from.ensures) in
+    let linked : c.attach.new.nodes ≡ attached wide p n n = c.attach.ensures ∙ ap (λ k. attached wide p k k) c.from-n.ensures in
+    ap (λ m. take m c.attach.new.nodes) c.push.ensures.count ∙ ap (λ r. take (n + 1) r) linked
+    ∙ append_rows rows n p c.args.made c.requires.room c.requires.within c.requires.last wide wrote
 
-pub returns : goal.returns
-returns c =
+pub returns-clause-rest : goal.returns-clause-rest
+returns-clause-rest c =
     let rows = c.args.nodes.now.rows.now in
     let n = c.args.nodes.now.count in
     let p = c.args.parent in
     let wide = c.push.new.self.rows.now in
-    record {
-      rows =
-          ap (λ m. take m c.attach.new.nodes) c.push.ensures.count
-          ∙ ap (λ r. take (n + 1) r) c.attach.ensures
-          ∙ append_rows rows n p c.args.made c.requires.room c.requires.within c.requires.last wide c.push.ensures.rows;
-      count = c.push.ensures.count;
-      rest = ap (λ r. drop (n + 1) r) c.attach.ensures ∙ append_rest rows n p c.args.made c.requires.room c.requires.within c.requires.last wide c.push.ensures.rows;
-      long = ap length c.attach.ensures ∙ append_long rows n p c.args.made c.requires.room c.requires.within c.requires.last wide c.push.ensures.rows;
-    }
+    let wrote : wide ≡ set rows n (fresh c.args.made p) = c.push.ensures.rows ∙ ap (set rows n) (c.new.ensures ∙ ap (fresh c.args.made) c.from.ensures) in
+    let linked : c.attach.new.nodes ≡ attached wide p n n = c.attach.ensures ∙ ap (λ k. attached wide p k k) c.from-n.ensures in
+    ap (λ r. drop (n + 1) r) linked ∙ append_rest rows n p c.args.made c.requires.room c.requires.within c.requires.last wide wrote

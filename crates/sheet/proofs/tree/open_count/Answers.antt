@@ -1,4 +1,4 @@
-use Rattle.std.proofs.Common.{ℕ, ◌+◌, List}
+use Rattle.std.proofs.Common.{ℕ, ◌+◌, List, sym, subst}
 use Rattle.screen.specs.declared.scope.Status.{Status}
 use Rattle.screen.specs.Forest.{Forest}
 use Rattle.sheet.specs.Planted.{Planted}
@@ -9,10 +9,11 @@ use Rattle.sheet.proofs.tree.open_count.Goals as goal
 pub loop-at-init : goal.loop-at-init
 loop-at-init c =
     let rows = c.args.nodes.now in
-    let p = c.requires in (
-      climb_low rows p.0 p.1 p.2 0 c.args.innermost (climb_start rows p.0 p.1 p.2 c.args.innermost p.3) p.3.standing.few,
-      λ ss f o h. climb_start rows ss f o c.args.innermost h,
-    )
+    let p = c.requires in
+    let at = c.from-at.result in
+    let start : (ss : List Status) (f : Forest) (o : ℕ) → Planted rows ss c.args.innermost f o → Climbed rows ss f o 0 at =
+    λ ss f o h. subst (λ (k : ℕ). Climbed rows ss f o 0 k) (sym c.from-at.ensures) (climb_start rows ss f o c.args.innermost h) in
+    (climb_low rows p.0 p.1 p.2 0 at (start p.0 p.1 p.2 p.3) p.3.standing.few, start)
 
 pub loop-at-preserved : goal.loop-at-preserved
 loop-at-preserved c =

@@ -1,23 +1,25 @@
-use Rattle.std.proofs.Common.{◌≡◌, ◌≤◌, min, length, None, sym, ap, ◌∙◌, arith}
-use Rattle.block.specs.Block.{fault_in, records_from, records_of, count_in}
+use Rattle.std.proofs.Common.{◌≡◌, min, Some, None, ap, ◌∙◌, arith, rules}
+use Rattle.block.specs.Block.{fault_in, fault_of, records_from, records_of, count_in}
 use Rattle.block.proofs.Blocks.{fault_whole, good_number, good_count}
 use Rattle.block.proofs.check.Unchecked.check.Goals as goal
 
-pub returns-in-Some-fault_in : goal.returns-in-Some-fault_in
-returns-in-Some-fault_in c =
-    let w : 512 ≤ length c.args.self.bytes.now = omega (arith, c.in-Some.ensures.cases.2) in
-    fault_whole _ _ _ w c.in-Some.ensures.cases.0 ∙ sym c.fault_in.ensures ∙ c.in-Some-fault_in.is
+pub returns-in_err-fault_in : goal.returns-in_err-fault_in
+returns-in_err-fault_in c =
+    let first = c.in-Some.ensures.cases in
+    let told : fault_of c.args.self.bytes.now c.args.self.place ≡ Some c.in_err-fault_in.field-0.0 =
+    fault_whole _ _ _ first.enough first.same ∙ c.in_err-fault_in.ensures in
+    search rules
 
 pub returns : goal.returns
 returns c =
-    let w : 512 ≤ length c.args.self.bytes.now = omega (arith, c.in-Some.ensures.cases.2) in
+    let first = c.in-Some.ensures.cases in
     let b = c.in-Some.bytes.now in
-    let good : fault_in b c.args.self.place ≡ None = sym c.fault_in.ensures ∙ c.in_default-fault_in.is in
-    let few : min 31 c.u16_at.result ≡ count_in b = omega (arith, c.u16_at.ensures, good_count b c.args.self.place good) in (
-      fault_whole _ _ _ w c.in-Some.ensures.cases.0 ∙ good,
+    let good : fault_in b c.args.self.place ≡ None = c.in_ok-fault_in.ensures in
+    let few : min 31 c.from.result ≡ count_in b = omega (arith, c.from.ensures, c.u16_at.ensures, good_count b c.args.self.place good) in (
+      fault_whole _ _ _ first.enough first.same ∙ good,
       record {
-        holds = c.in-Some.ensures.cases.0;
+        holds = first.same;
         numbered = c.u32_at.ensures ∙ good_number b c.args.self.place good;
-        records = ap (records_from b 0) few ∙ ap records_of c.in-Some.ensures.cases.0;
+        records = ap (records_from b 0) few ∙ ap records_of first.same;
       },
     )

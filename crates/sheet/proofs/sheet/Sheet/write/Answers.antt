@@ -9,13 +9,13 @@ use Rattle.sheet.proofs.sheet.Sheet.write.Goals as goal
 pub put_entry-requires : goal.put_entry-requires
 put_entry-requires c =
     let p = c.requires.ready in
-    entry_room (memory c.args.self.now) p.0 p.1 c.requires.long c.args.entry p.3
+    entry_room (memory c.args.self.now) p.0 p.1 c.requires.long c.args.entry.now p.3
 
 pub returns : goal.returns
 returns c =
     let m = memory c.args.self.now in
     let m' = memory c.put_entry.new.self in
-    let e = c.args.entry in
+    let e = c.args.entry.now in
     let p = c.requires.ready in
     let room = entry_room m p.0 p.1 c.requires.long e p.3 in
     record {

@@ -1,47 +1,24 @@
-use Rattle.std.proofs.Common.{◌≡◌, ℕ, ◌+◌, ◌<◌, ◌&&◌, eqb, leb, List, length, get_or, drop, sym, ap, ◌∙◌, arith}
-use Rattle.std.proofs.lemmas.List.{at_drop_more, at_drop_all, nil_from_length}
+use Rattle.std.proofs.Common.{◌<◌, length, sym, ◌∙◌, arith}
 use Rattle.std.proofs.lemmas.Bool.Decides.{nat_tests}
-use Rattle.screen.specs.WellFormed.{spans_to, rises_to}
-use Rattle.sheet.specs.Chains.{no_scope}
-use Rattle.sheet.specs.Walks.{begins}
-use Rattle.sheet.specs.declared.rows.ScopeRow.{ScopeRow}
+use Rattle.sheet.proofs.Rising.{spans, spans_ordered}
 use Rattle.sheet.proofs.sound.scopes.begins_rise.Goals as goal
+use Rattle.sheet.proofs.sound.scopes.begins_rise.Goals.{then-scopes-eq0, else-scopes-eq0}
 
-abbrev begin_at : List ScopeRow → ℕ → ℕ
-begin_at S i = (get_or S i no_scope).begin
+pub returns-then-scopes-dependencies : goal.returns-then-scopes-dependencies
+returns-then-scopes-dependencies c =
+    let S = c.args.scopes.now in
+    let some : 0 < length S = grind (arith, nat_tests) in
+    elim c.if-scopes-eq0.branch [
+      | then-scopes-eq0 w ↦ c.in_order.ensures ∙ sym (spans_ordered S c.args.dependencies some w.if-scopes-eq0.true (sym w.value-is ∙ c.if-scopes-dependencies.true))
+      | else-scopes-eq0 w ↦ let first = w.if-scopes-eq0.false in let no = w.value-is in let t = c.if-scopes-dependencies.true in grind (arith, nat_tests)
+    ]
 
--- all begins: the first, and the rest
-spans : (S : List ScopeRow) (d : ℕ) → 0 < length S → spans_to (begins S) d ≡ (eqb (begin_at S 0) 0 && rises_to (begin_at S 0) (begins (drop 1 S)) d)
-spans S d h = at_drop_more (λ rs. spans_to (begins rs) d) S 0 no_scope h
-
--- the begins from row i on: row i's, and the rest
-rises : (S : List ScopeRow) (low d i : ℕ) → i < length S → rises_to low (begins (drop i S)) d ≡ (leb low (begin_at S i) && rises_to (begin_at S i) (begins (drop (i + 1) S)) d)
-rises S low d i h = at_drop_more (λ rs. rises_to low (begins rs) d) S i no_scope h
-
-pub returns-then-scopes-eq0 : goal.returns-then-scopes-eq0
-returns-then-scopes-eq0 c = ap (λ rs. spans_to (begins rs) c.args.dependencies) (sym (nil_from_length c.args.scopes.now (omega arith)))
-
-pub returns-then-scopes-ne0 : goal.returns-then-scopes-ne0
-returns-then-scopes-ne0 c =
-    let e = spans c.args.scopes.now c.args.dependencies (omega arith) in
-    grind (arith, nat_tests)
-
-pub loop-scope-init : goal.loop-scope-init
-loop-scope-init c =
-    let e = spans c.args.scopes.now c.args.dependencies (omega arith) in
-    let f = rises c.args.scopes.now 0 c.args.dependencies 0 (omega arith) in
-    (omega arith, grind (arith, nat_tests))
-
-pub returns-then-scope-low : goal.returns-then-scope-low
-returns-then-scope-low c =
-    let e = rises c.args.scopes.now c.loop-scope.low c.args.dependencies c.loop-scope.scope-index c.loop-scope-test.true in
-    grind (arith, nat_tests)
-
-pub loop-scope-preserved : goal.loop-scope-preserved
-loop-scope-preserved c =
-    let e = rises c.args.scopes.now c.loop-scope.low c.args.dependencies c.loop-scope.scope-index c.loop-scope-test.true in
-    (omega arith, grind (arith, nat_tests))
-
-pub returns : goal.returns
-returns c =
-    sym (c.loop-scope.invariant.1 ∙ at_drop_all (λ rs. rises_to c.loop-scope.low (begins rs) c.args.dependencies) c.args.scopes.now c.loop-scope.scope-index c.loop-scope-test.false)
+pub returns-else-scopes-dependencies : goal.returns-else-scopes-dependencies
+returns-else-scopes-dependencies c =
+    let some : 0 < length c.args.scopes.now = grind (arith, nat_tests) in
+    let e = spans c.args.scopes.now c.args.dependencies some in
+    let t = c.if-scopes-dependencies.false in
+    elim c.if-scopes-eq0.branch [
+      | then-scopes-eq0 w ↦ let first = w.if-scopes-eq0.true in let last = w.value-is in grind (arith, nat_tests)
+      | else-scopes-eq0 w ↦ let first = w.if-scopes-eq0.false in let last = w.value-is in grind (arith, nat_tests)
+    ]

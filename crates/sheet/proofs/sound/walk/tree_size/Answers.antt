@@ -1,4 +1,5 @@
 use Rattle.std.proofs.Common.{◌≡◌, ◌+◌, ◌<◌, ◌≤◌, ◌≢◌, List, length, sym, refl, subst, arith}
+use Rattle.std.proofs.lemmas.Bool.{both_ways}
 use Rattle.screen.specs.Forest.{Forest}
 use Rattle.sheet.specs.declared.rows.NodeRow.{NodeRow}
 use Rattle.sheet.specs.declared.sound.walk.Seat.{Seat}
@@ -26,18 +27,15 @@ pub returns-then-at-eq0 : goal.returns-then-at-eq0
 returns-then-at-eq0 c =
     let rows = c.args.nodes.now in
     let few : length rows ≤ 1024 = omega arith in
-    let all = seen_all rows few c.loop-at.at c.loop-at.invariant.0 (c.fits.ensures.yes c.loop-at-test.true) c.if-at.true c.if-at-eq0.true in
-    record {
-      yes = λ _. (all.0, all.1.0, all.1.1, omega (arith, all.2));
-      no = λ f h t. omega (arith, all.2);
-    }
+    let all = seen_all rows few c.loop-at.at c.loop-at.invariant.0 (c.fits.ensures.0 c.loop-at-test.true) c.if-at.true c.if-at-eq0.true in
+    (all.0, all.1.0, all.1.1, omega (arith, all.2))
 
 pub loop-at-preserved : goal.loop-at-preserved
 loop-at-preserved c =
     let rows = c.args.nodes.now in
     let few : length rows ≤ 1024 = omega arith in
     let a = c.loop-at.at in
-    let fit = c.fits.ensures.yes c.loop-at-test.true in
+    let fit = c.fits.ensures.0 c.loop-at-test.true in
     elim c.else-at.branch [
       | else-at-via-then-at+else-at-eq0 w ↦
           whole rows few _ _ (c.on-at.ensures.up w.if-at.true)
@@ -53,7 +51,4 @@ pub returns : goal.returns
 returns c =
     let rows = c.args.nodes.now in
     let few : length rows ≤ 1024 = omega arith in
-    record {
-      yes = λ e. absurd (omega (arith, e));
-      no = λ f h t. absurd (c.fits.ensures.no c.loop-at-test.false (coming_fits rows few c.loop-at.at (c.loop-at.invariant.1 f (h, t))));
-    }
+    λ f h t. both_ways c.fits.result c.loop-at-test.false (c.fits.ensures.1 (coming_fits rows few c.loop-at.at (c.loop-at.invariant.1 f (h, t))))
