@@ -3,15 +3,12 @@
 #![tactic(auto)]
 
 use programs::{Fault, failed, run};
-use std::alloc::AllocError;
-use std::io::{BufWriter, Write};
+use std::io::{LineWriter, Write};
 use std::process::ExitCode;
 
 /// Runs standard input. A block that is refused ends the run, and is printed as a record's refusal is.
-fn run_input(rt: &HostRuntime) -> Result<(), Fault> {
-    let heap = rt.alloc();
-    let mut out = BufWriter::new(heap, rt.stdout()).map_err(|_| AllocError)?;
-    let ended = match run(heap, &mut rt.stdin(), &mut out) {
+fn run_input<W: Write>(rt: &HostRuntime, out: &mut W) -> Result<(), Fault> {
+    let ended = match run(rt.alloc(), &mut rt.stdin(), out) {
         Err(Fault::Block(bad)) => Ok(writeln!(out, "{bad}")?),
         other => other,
     };
@@ -19,8 +16,17 @@ fn run_input(rt: &HostRuntime) -> Result<(), Fault> {
     ended
 }
 
+/// Prints line by line: a host may send a block and wait for its answers before it sends more. The buffer only saves calls within a line, and
+/// where there is no memory for it the program prints without.
+fn report(rt: &HostRuntime) -> Result<(), Fault> {
+    match LineWriter::new(rt.alloc(), rt.stdout()) {
+        Ok(mut out) => run_input(rt, &mut out),
+        Err(_) => run_input(rt, &mut rt.stdout()),
+    }
+}
+
 fn main(rt: HostRuntime) -> ExitCode {
-    match run_input(&rt) {
+    match report(&rt) {
         Ok(()) => ExitCode::SUCCESS,
         Err(fault) => failed(&rt, "sheetrun", &fault),
     }

@@ -39,17 +39,31 @@ fn wants_tree(rt: &HostRuntime) -> Result<bool> {
 }
 
 /// Shows blocks, and their tree where it is asked for. Answers whether every block is good.
+fn show_blocks<W: Write>(
+    out: &mut W,
+    heap: Global,
+    bytes: &[u8],
+    tree: bool,
+) -> Result<bool, Fault> {
+    let good = show_lines(out, heap, bytes)?;
+    if tree {
+        // a full output is told before memory for the tables is asked for
+        out.flush()?;
+        show_tree(out, heap, bytes)?;
+    }
+    out.flush()?;
+    Ok(good)
+}
+
+/// Shows standard input through a buffer, which only saves calls: where there is no memory for one, without.
 fn show(rt: &HostRuntime, tree: bool) -> Result<bool, Fault> {
     let heap = rt.alloc();
     let mut bytes = Vec::new(heap);
     rt.stdin().read_to_end(&mut bytes)?;
-    let mut out = BufWriter::new(heap, rt.stdout())?;
-    let good = show_lines(&mut out, heap, bytes.as_slice())?;
-    if tree {
-        show_tree(&mut out, heap, bytes.as_slice())?;
+    match BufWriter::new(heap, rt.stdout()) {
+        Ok(mut out) => show_blocks(&mut out, heap, bytes.as_slice(), tree),
+        Err(_) => show_blocks(&mut rt.stdout(), heap, bytes.as_slice(), tree),
     }
-    out.flush()?;
-    Ok(good)
 }
 
 /// Shows standard input. Answers whether every block is good. Its errors are short, and `anyhow` keeps the first 120 bytes of a message.
