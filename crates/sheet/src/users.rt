@@ -1,6 +1,6 @@
 //! Which values have a user.
 
-ghost use Rattle.std.specs.Prelude.{◌≡◌, ℕ, ◌-◌, List, length, slice_index_or};
+ghost use Rattle.std.specs.Prelude.{◌≡◌, ℕ, ◌-◌, ◌||◌, ◌==◌, List, length, slice_index_or};
 ghost use Rattle.screen.specs.declared.scope.Status.TheVariants.{Unused};
 ghost use Rattle.screen.specs.Entries.{node_of};
 ghost use Rattle.screen.specs.Lists.{member, gathered, present};
@@ -40,6 +40,19 @@ pub trait Naming: Copy {
     /// The values that it names, in places that may be empty.
     fn names(&self) -> [Option<ValueId>; 4]
         ensures { present result ≡ names self.now };
+
+    /// Whether it names value k. Each row is asked this for one record, so that a row with k in no field is told at once, before it is read as
+    /// what it stands for.
+    fn is_naming(&self, k: ValueId) -> bool
+        ensures { result ≡ member k (names self.now) };
+}
+
+/// Whether k stands in one of the fields where a value's row may name a value.
+fn has_field(row: &ValueRow, k: ValueId) -> bool
+    ensures { result ≡ (row.now.r == k || row.now.s == k || row.now.t == k) }
+{
+    let n = u32::from(k);
+    row.r == n || row.s == n || row.t == n
 }
 
 impl Naming for ValueRow {
@@ -47,6 +60,10 @@ impl Naming for ValueRow {
 
     fn names(&self) -> [Option<ValueId>; 4] {
         Value::from(*self).children()
+    }
+
+    fn is_naming(&self, k: ValueId) -> bool {
+        has_field(self, k) && among(&self.names(), k)
     }
 }
 
@@ -56,13 +73,17 @@ impl Naming for NodeRow {
     fn names(&self) -> [Option<ValueId>; 4] {
         [value_in(Node::from(self.made)), None, None, None]
     }
+
+    fn is_naming(&self, k: ValueId) -> bool {
+        self.made.s == u32::from(k) && among(&self.names(), k)
+    }
 }
 
 /// Whether one of the rows names value k.
 fn is_named<R: Naming>(rows: &[R], k: ValueId) -> bool
     ensures { result ≡ member k (gathered R.Naming.names rows.now) }
 {
-    rows.iter().any(|row| among(&row.names(), k))
+    rows.iter().any(|row| row.is_naming(k))
 }
 
 /// The rows that name values, and the Scopes, which nodes open.
