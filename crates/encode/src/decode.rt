@@ -12,7 +12,11 @@ use std::alloc::{AllocError, Global};
 pub fn records_of(heap: Global, block: &Checked) -> Result<Vec<[u8; RECORD]>, AllocError>
     ensures { IfOk result (λ v. v.items ≡ records_in block.now) }
 {
-    block.records().collect(heap)
+    let mut records = Vec::new(heap);
+    for record in block.records() {
+        records.push(record)?;
+    }
+    Ok(records)
 }
 
 /// Writes the records of a good block into a block again, under this number.

@@ -85,7 +85,10 @@ impl Sheet<'_> {
             Ok(entry) => entry,
             Err(refusal) => return Err(refusal),
         };
-        self.admits(&entry)?;
+        // no `?`: an edit that changes what is answered here would have to take it away, and be refused for that
+        if let Err(refusal) = self.admits(&entry) {
+            return Err(refusal);
+        }
         if let Entry::List = entry {
             return Ok(Answer::Listed(self.list(work)));
         }
