@@ -1,4 +1,3 @@
-pub mod Kept
 pub mod Likes
 pub mod Parts
 pub mod Repeats
