@@ -7,7 +7,7 @@
 use crate::names::{Kinds, NODES, PATHS, RULES, TERMINALS, TYPES, VALUES};
 use crate::rows::{blank, row_of};
 use block::{RECORD, Record};
-use std::fmt;
+use std::{fmt, str};
 
 /// A record's line of text, the one that is written for these sixteen bytes.
 #[derive(Clone, Copy, Debug, PartialEq, Eq)]
@@ -89,13 +89,13 @@ fn is_kind(kinds: Kinds, number: u16) -> bool {
     kinds.name(number).is_some()
 }
 
-/// The sixteen bytes in hexadecimal digits, each as it comes: crate `hex` writes to memory or into a buffer.
+/// The sixteen bytes in hexadecimal digits, written in one piece: a formatter takes longer over two digits than over thirty-two.
 fn show_raw<W: fmt::Write>(bytes: [u8; RECORD], f: &mut fmt::Formatter<W>) -> fmt::Result {
-    f.write_str("raw ")?;
-    for byte in bytes {
-        write!(f, "{byte:02x}")?;
-    }
-    Ok(())
+    let mut digits = [0; 2 * RECORD];
+    // neither can fail: the digits have room, and are all ASCII
+    hex::encode_to_slice(bytes, &mut digits).map_err(|_| fmt::Error)?;
+    let text = str::from_utf8(&digits).map_err(|_| fmt::Error)?;
+    write!(f, "raw {text}")
 }
 
 /// A type: its kind, and its shape unless it is 0.

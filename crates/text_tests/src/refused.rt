@@ -72,6 +72,31 @@ fn words_that_are_not_expected(rt: HostRuntime) -> Result<(), Fail> {
 }
 
 #[test]
+fn kinds_that_are_expected(rt: HostRuntime) -> Result<(), Fail> {
+    let heap = rt.alloc();
+    refused(
+        heap,
+        "type array",
+        "array is not understood, expected primitive, function, object, var, poly, phi, property or objectMethod",
+    )?;
+    refused(
+        heap,
+        "path key 1 0",
+        "key is not understood, expected name or number",
+    )?;
+    refused(
+        heap,
+        "value call",
+        "call is not understood, expected a kind of value, as other, binary, computedLoad, jsxText, loadGlobal, loadLocal, primitive, propertyLoad, template, unary, storeConst, storeLocal, logical, conditional, sequence, optional or inner",
+    )?;
+    refused(
+        heap,
+        "open terminal goto 1",
+        "goto is not understood, expected break, continue, return, throw, switch, doWhile, while, for, forOf, forIn, if, label or try",
+    )
+}
+
+#[test]
 fn lines_of_no_record(rt: HostRuntime) -> Result<(), Fail> {
     assert!(rt; read_line("")?.is_none());
     assert!(rt; read_line("   \t ")?.is_none());
