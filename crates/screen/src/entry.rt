@@ -69,6 +69,8 @@ impl From<Record> for Node {
     ghost from_gives = { λ x node. node ≡ node_of x };
 
     /// The node that a record made. The body's record is all zeros.
+    // The examination reads each node's row several times, for one question each. Inlined, a reading does only what its question needs.
+    #[inline(always)]
     fn from(x: Record) -> Node {
         match Entry::try_from(x) {
             Ok(Entry::Node(node)) => node,
@@ -83,6 +85,8 @@ impl TryFrom<Record> for Entry {
     ghost try_from_gives = { λ x entry. entry ≡ ok_or (entry_of x) Field };
 
     /// What a record asks for. Its tag may be unknown, or a field break its list. Each tag has a list of its own, and so a function.
+    // Inlined for the same, where a row is read as a node or only asked whether it keeps its list.
+    #[inline(always)]
     #[tactic(auto, unfolding(crate::specs::Entries::entry_of))]
     fn try_from(x: Record) -> Result<Entry, Refusal> {
         match x.tag {
