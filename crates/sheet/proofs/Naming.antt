@@ -2,6 +2,7 @@
 use Rattle.std.proofs.Common.{◌≡◌, ℕ, Bool, true, false, cond, ◌||◌, eqb, List, [], ◌∷◌, Some, None, Option, refl, sym, ap, ◌∙◌}
 use Rattle.std.proofs.lemmas.Bool.{cond_both}
 use Rattle.std.specs.List.{list_any}
+use Rattle.std.specs.Option.{option_eq}
 use borrow.Author.Tests.{clash}
 use Rattle.block.specs.declared.record.Record.{Record}
 use Rattle.screen.specs.declared.entry.Entry.{Entry}
@@ -19,6 +20,12 @@ use Rattle.screen.specs.Lists.{member, gathered, present}
 use Rattle.screen.specs.Users.{names_of, names_in}
 use Rattle.screen.specs.Values.{optional, value_of, children_of}
 use Rattle.screen.proofs.Members.{member_append}
+
+-- a number is among those that are there where one of the places holds it
+pub member_present : (same : ℕ → ℕ → Bool) (k : ℕ) → ((n : ℕ) → same n k ≡ eqb n k) → (os : List (Option ℕ)) → list_any (λ o. option_eq same o (Some k)) os ≡ member k (present os)
+member_present same k h [] = refl
+member_present same k h (None ∷ os) = member_present same k h os
+member_present same k h (Some n ∷ os) = rw (h n) (ap (λ b. eqb n k || b) (member_present same k h os))
 
 pub member_gathered : {A : Type 0} (k : ℕ) (f : A → List ℕ) (xs : List A) → member k (gathered f xs) ≡ list_any (λ x. member k (f x)) xs
 member_gathered k f [] = refl

@@ -18,7 +18,7 @@ use screen::{Entry, Node, Status, Value, ValueId, ValueRow};
 fn among(names: &[Option<ValueId>], k: ValueId) -> bool
     ensures { result ≡ member k (present names.now) }
 {
-    names.iter().filter_map(|name| *name).any(|n| n == k)
+    names.contains(&Some(k))
 }
 
 /// The value that a node names.
